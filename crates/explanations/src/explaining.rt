@@ -2,8 +2,6 @@
 ghost use Rattle.std.specs.Prelude.{◌≡◌, ◌⊎◌, ◌≤◌, None, IfOk, IfErr, length};
 ghost use Rattle.std.specs.List.{list_any};
 ghost use Rattle.scenario.specs.Setups.{setup_refusal};
-ghost use Rattle.machine.specs.Runs.{start, Accepts};
-ghost use Rattle.findings.specs.Findings.{IsReportOf};
 ghost use Rattle.explanations.specs.Explained.{is_requested, counts, Explains, ExplainsRun, Unexplained, UnexplainedRun};
 
 use crate::json::add_object;

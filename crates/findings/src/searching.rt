@@ -80,11 +80,7 @@ fn note(at: Transition<'_>, history: &mut History) -> Result<(), AllocError> {
 }
 
 // Adds all findings of an event, and records its history.
-fn look(
-    at: Transition<'_>,
-    past: &Record,
-    search: &mut Search,
-) -> Result<(), AllocError>
+fn look(at: Transition<'_>, past: &Record, search: &mut Search) -> Result<(), AllocError>
     ensures added { OnOk result (search.new.found.items
         ≡ ((search.old.found.items
         ++ flat_map (of_change at.entry.moment at.entry.state.now.table) past.now)
@@ -188,12 +184,7 @@ impl Observer for Search {
         Ok(Before::new(at.setup, at.state, at.event))
     }
 
-    fn after(
-        &mut self,
-        at: Observed<'_>,
-        past: &Record,
-        note: Before,
-    ) -> Result<(), AllocError> {
+    fn after(&mut self, at: Observed<'_>, past: &Record, note: Before) -> Result<(), AllocError> {
         let moment = at.index as u32;
         let done = Transition {
             setup: at.setup,

@@ -1,11 +1,11 @@
 -- A log after one more event, and a log that ends early.
 use Rattle.std.proofs.Common.{◌≡◌, ◌⊎◌, inl, inr, ℕ, ◌+◌, ◌<◌, suc, List, ◌++◌, length, get_or, slice_get, Bool, true, Option, Some, None, refl, sym, ap, ◌∙◌, subst, arith, append_assoc}
-use Rattle.std.specs.Prelude.{⊤, Result, Ok, Err, OnOk, IfErr}
+use Rattle.std.specs.Prelude.{⊤, Result, Ok, Err, OnOk, IfOk, IfErr}
 use Rattle.std.proofs.KnownBytes.{Appends-trans, Appends-kept}
 use Rattle.std.proofs.lemmas.Option.{slice_get-get_or}
 use Rattle.std.specs.Io.KnownBytes.{Appends, Keeps}
 use Rattle.places.specs.declared.value.Change.{Change}
-use Rattle.places.specs.View.{Exact}
+use Rattle.places.specs.View.{View, Exact, NamesOnce}
 use Rattle.scenario.specs.declared.event.Event.{Event}
 use Rattle.scenario.specs.declared.setup.Setup.{Setup}
 use Rattle.machine.specs.declared.whole.Machine.{Machine}
@@ -17,10 +17,19 @@ use Rattle.whole_files.specs.Writes.{WritesFront}
 use Rattle.script.specs.declared.log_fault.LogFault.{LogFault}
 use Rattle.script.specs.declared.log_fault.LogFault.TheVariants.{Script, Trace, Schedule, Write, Memory}
 use Rattle.run_log.specs.declared.range.EventRange.{EventRange}
+use Rattle.run_log.specs.declared.changed.Changed.{Changed}
+use Rattle.run_log.specs.Lines.{event_lines}
+use Rattle.run_log.specs.Listings.{IsListing}
 use Rattle.run_log.specs.Ranges.{has}
 use Rattle.run_log.specs.Logs.{Shows, Reports, ReportsIf, Reported, Halts, Logs, Written, Stopped}
 
 -- ---- one event
+
+-- The lines of an event, from the result of a call.
+pub shows_of : {T E : Type 0} (x : Result T E) (items : T → List ℕ) (s : Setup) (i : ℕ) (e : Event) (v : View) (past : List Change) (listed ds : List Changed) → NamesOnce past → IsListing v past listed → ds ≡ listed
+    → IfOk x (λ t. items t ≡ event_lines s i e ds) → IfOk x (λ t. Shows s i e v past (items t))
+shows_of (Ok t) items s i e v past listed ds once listing same h = record { once = once; listed = listed; listing = listing; lines = h ∙ ap (event_lines s i e) same }
+shows_of (Err f) items s i e v past listed ds once listing same h = tt
 
 pub reports_of : (s : Setup) (i : ℕ) (m n : Machine) (e : Event) (past : List Change) (text : List ℕ) → Next m e n → Exact (view m) (view n) past → Shows s i e (view n) past text → Reports s i m e text
 reports_of s i m n e past text next exact shows = record {

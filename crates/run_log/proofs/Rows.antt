@@ -48,13 +48,14 @@ parted_whole d ds i count last h all =
 
 -- ---- text
 
--- The line of a row, after the earlier lines.
-pub line_more : (f : List Changed → List ℕ) (start out written : List ℕ) (all rest row others : List Changed) (n : ℕ) → rows rest ≡ take n rest ∷ rows (drop n rest) → row ≡ take n rest → others ≡ drop n rest → written ≡ out ++ f row
-    → out ++ flat_map f (rows rest) ≡ start ++ flat_map f (rows all) → written ++ flat_map f (rows others) ≡ start ++ flat_map f (rows all)
-line_more f start out written all rest row others n parts e g w before =
+-- The lines of a row, `f`, after the earlier lines. The lines of several rows are `g`.
+pub line_more : {A : Type 0} (f : List Changed → List A) (g : List (List Changed) → List A) → ((r : List Changed) (rs : List (List Changed)) → g (r ∷ rs) ≡ f r ++ g rs)
+    → (start out written : List A) (all rest row others : List Changed) (n : ℕ) → rows rest ≡ take n rest ∷ rows (drop n rest) → row ≡ take n rest → others ≡ drop n rest → written ≡ out ++ f row
+    → out ++ g (rows rest) ≡ start ++ g (rows all) → written ++ g (rows others) ≡ start ++ g (rows all)
+line_more f g cons start out written all rest row others n parts e h w before =
     let line : written ≡ out ++ f (take n rest) = w ∙ ap (λ x. out ++ f x) e in
-    ap (λ ds. written ++ flat_map f (rows ds)) g
-    ∙ ap (λ o. o ++ flat_map f (rows (drop n rest))) line
-    ∙ append_assoc out (f (take n rest)) (flat_map f (rows (drop n rest)))
-    ∙ ap (λ rs. out ++ flat_map f rs) (sym parts)
+    ap (λ ds. written ++ g (rows ds)) h
+    ∙ ap (λ o. o ++ g (rows (drop n rest))) line
+    ∙ append_assoc out (f (take n rest)) (g (rows (drop n rest)))
+    ∙ ap (λ x. out ++ x) (sym (ap g parts ∙ cons (take n rest) (rows (drop n rest))))
     ∙ before

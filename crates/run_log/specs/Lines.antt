@@ -64,12 +64,16 @@ end_text ds =
 
 -- The old values and the new values.
 abbrev pub values_text : List Changed → List ℕ
-values_text ds = codes " " ++ (olds_text ds ++ (codes " -> " ++ (news_text ds ++ codes "\n")))
+values_text ds = codes " " ++ (olds_text ds ++ (codes " -> " ++ news_text ds))
 
--- A line: the first place, the end of a row of bytes, and the values.
+-- The text of a row: the first place, the end of a row of bytes, and the values.
+abbrev pub change_text : Setup → List Changed → List ℕ
+change_text s [] = []
+change_text s (d ∷ ds) = place_text s d.place ++ (end_text ds ++ values_text (d ∷ ds))
+
+-- The line of a row.
 abbrev pub line_text : Setup → List Changed → List ℕ
-line_text s [] = []
-line_text s (d ∷ ds) = codes "  " ++ (place_text s d.place ++ (end_text ds ++ values_text (d ∷ ds)))
+line_text s ds = codes "  " ++ (change_text s ds ++ codes "\n")
 
 -- The event's index and words, followed by a line for each row of its changes.
 abbrev pub event_lines : Setup → ℕ → Event → List Changed → List ℕ

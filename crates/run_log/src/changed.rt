@@ -53,11 +53,7 @@ fn gathered(alloc: Global, past: &Record, state: &State) -> Result<Vec<Changed>,
 
 /// Returns the changes of a step in the order of places. `past` is its undo record, and `state` the
 /// state after it.
-pub(crate) fn changes_of(
-    alloc: Global,
-    past: &Record,
-    state: &State,
-) -> Result<Vec<Changed>, AllocError>
+pub fn changes_of(alloc: Global, past: &Record, state: &State) -> Result<Vec<Changed>, AllocError>
     ensures listing { IfOk result (λ list. IsListing (view state.now) past.now list.items) }
     ensures once { OnOk result (NamesOnce past.now) }
 {

@@ -11,7 +11,8 @@ mod range;
 mod reading;
 mod writing;
 
-pub use changed::Changed;
+pub use changed::{Changed, changes_of};
+pub use line::change_lines;
 pub use logging::log_events;
 pub use range::EventRange;
 pub use reading::{log_run, log_script, log_trace};

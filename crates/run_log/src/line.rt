@@ -1,7 +1,7 @@
 //! The lines of an event.
-ghost use Rattle.std.specs.Prelude.{◌≡◌, ◌<◌, ◌++◌, length, codes, IfOk, OnOk};
+ghost use Rattle.std.specs.Prelude.{◌≡◌, ◌<◌, ◌++◌, length, codes, map, IfOk, OnOk};
 ghost use Rattle.std.specs.List.{flat_map};
-ghost use Rattle.run_log.specs.Lines.{value_shown, olds_text, news_text, end_text, values_text, line_text, rows, event_lines};
+ghost use Rattle.run_log.specs.Lines.{value_shown, olds_text, news_text, end_text, values_text, change_text, line_text, rows, event_lines};
 ghost use Rattle.run_log.specs.PlaceTexts.{number_text};
 
 use crate::changed::Changed;
@@ -69,8 +69,22 @@ fn put_values(alloc: Global, out: &mut Vec<u8>, row: &[Changed]) -> Result<(), A
     out.extend_from_slice(b" ")?;
     put_olds(alloc, out, row)?;
     out.extend_from_slice(b" -> ")?;
-    put_news(alloc, out, row)?;
-    out.extend_from_slice(b"\n")
+    put_news(alloc, out, row)
+}
+
+// Writes a single change or the change of consecutive bytes, such as `mem 0..1 0000 -> 6869`.
+fn put_change(
+    alloc: Global,
+    out: &mut Vec<u8>,
+    setup: &Setup,
+    row: &[Changed],
+) -> Result<(), AllocError>
+    requires { 0 < length row.now }
+    ensures { OnOk result (out.new.items ≡ out.old.items ++ change_text setup.now row.now) }
+{
+    put_place(alloc, out, setup, row[0].place)?;
+    put_end(alloc, out, &row[1..])?;
+    put_values(alloc, out, row)
 }
 
 // Writes the line of a single change or of consecutive bytes.
@@ -84,9 +98,8 @@ fn put_line(
     ensures { OnOk result (out.new.items ≡ out.old.items ++ line_text setup.now row.now) }
 {
     out.extend_from_slice(b"  ")?;
-    put_place(alloc, out, setup, row[0].place)?;
-    put_end(alloc, out, &row[1..])?;
-    put_values(alloc, out, row)
+    put_change(alloc, out, setup, row)?;
+    out.extend_from_slice(b"\n")
 }
 
 // Writes the lines of a step's changes.
@@ -106,6 +119,36 @@ fn put_lines(
         rest = after;
     }
     Ok(())
+}
+
+// Returns the text of a single change or of consecutive bytes.
+fn change_line(alloc: Global, setup: &Setup, row: &[Changed]) -> Result<Vec<u8>, AllocError>
+    requires { 0 < length row.now }
+    ensures { IfOk result (λ line. line.items ≡ change_text setup.now row.now) }
+{
+    let mut line = Vec::new(alloc);
+    put_change(alloc, &mut line, setup, row)?;
+    Ok(line)
+}
+
+/// Returns the lines of a step's changes as the log prints them, but without the two spaces at the
+/// front and the newline. `changes` are those of `changes_of`.
+pub fn change_lines(
+    alloc: Global,
+    setup: &Setup,
+    changes: &[Changed],
+) -> Result<Vec<Vec<u8>>, AllocError>
+    ensures { IfOk result (λ lines. map (λ line. line.items) lines.items
+        ≡ map (change_text setup.now) (rows changes.now)) }
+{
+    let mut lines = Vec::new(alloc);
+    let mut rest = changes;
+    while !rest.is_empty() {
+        let (row, after) = rest.split_at(first_row(rest));
+        lines.push(change_line(alloc, setup, row)?)?;
+        rest = after;
+    }
+    Ok(lines)
 }
 
 /// Returns the lines of an event: its index and words, followed by its changes.

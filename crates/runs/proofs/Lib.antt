@@ -1,1 +1,2 @@
-mod Continuing
+pub mod Continuing
+pub mod Endings

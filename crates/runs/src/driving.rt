@@ -48,8 +48,12 @@ fn step<O: Observer>(
     };
     let past = match state.step(event) {
         Ok(past) => past,
-        Err(Refusal::Memory) => return Err(Ended::Memory),
-        Err(refusal) => return Err(Ended::Refused(index as u32, refusal)),
+        Err(refusal) => {
+            if let Refusal::Memory = refusal {
+                return Err(Ended::Memory);
+            }
+            return Err(Ended::Refused(index as u32, refusal));
+        }
     };
     let after = Observed {
         setup,

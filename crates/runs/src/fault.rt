@@ -7,6 +7,7 @@ use machine::Refusal;
 use script::ScriptFault;
 use std::alloc::AllocError;
 use traces::TraceFault;
+use whole_files::NotWritten;
 
 /// Why a report of a run ended early.
 #[derive(Clone, Copy)]
@@ -30,6 +31,16 @@ impl From<AllocError> for ReportFault {
 
     fn from(_e: AllocError) -> ReportFault {
         ReportFault::Memory
+    }
+}
+
+impl From<NotWritten> for ReportFault {
+    ghost use Rattle.runs.specs.declared.fault.ReportFault.TheVariants.{Write};
+
+    ghost from_gives = { λ _ e. e ≡ Write };
+
+    fn from(_e: NotWritten) -> ReportFault {
+        ReportFault::Write
     }
 }
 

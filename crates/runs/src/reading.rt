@@ -1,7 +1,6 @@
 //! Reading a run from the bytes of a script or a trace.
-ghost use Rattle.std.specs.Prelude.{◌≡◌, ◌≤◌, None, length, IfOk, IfErr};
+ghost use Rattle.std.specs.Prelude.{◌≡◌, ◌≤◌, None, true, false, length, IfOk, IfErr};
 ghost use Rattle.scenario.specs.Setups.{setup_refusal};
-ghost use Rattle.script.specs.Scripts.{Startable as IsStartableScript};
 ghost use Rattle.runs.specs.Reading.{Startable, Reads, ReadsAs, IsUnread, IsUnreadAs};
 
 use machine::{Event, Setup};

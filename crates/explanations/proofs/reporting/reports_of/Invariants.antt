@@ -3,4 +3,4 @@ use Rattle.explanations.specs.ReportLists.{findings_in}
 use Rattle.explanations.proofs.reporting.reports_of.Given as goal
 
 abbrev pub invariant-loop-index : goal.invariant-loop-index
-invariant-loop-index l = findings_in l.reports.items ≡ take l.index l.run.now.found.now
+invariant-loop-index l = findings_in l.reports.items ≡ take l.index l.run.found.now
