@@ -1,5 +1,5 @@
 -- What `explain` reports about the run of a script or a trace.
-use Rattle.std.specs.Prelude.{◌≡◌, ◌==◌, Bool, true, ◌&&◌, Option, Some, None, List, ℕ}
+use Rattle.std.specs.Prelude.{◌≡◌, Bool, true, ◌&&◌, Option, Some, None, List, ℕ}
 use Rattle.std.specs.List.{list_any}
 use Rattle.scenario.specs.declared.event.Event.{Event}
 use Rattle.scenario.specs.declared.setup.Setup.{Setup}
@@ -12,12 +12,13 @@ use Rattle.runs.specs.Reading.{Reads, IsUnread}
 use Rattle.finding_kinds.specs.declared.finding.Finding.{Finding}
 use Rattle.finding_kinds.specs.declared.kind.Kind.{Kind}
 use Rattle.findings.specs.Findings.{IsReportOf}
-use Rattle.finding_kinds.specs.Kinds.{number_of, is_fault}
+use Rattle.finding_kinds.specs.Kinds.{is_fault}
+use Rattle.finding_kinds.specs.Orders.{have_one_name}
 
--- Whether a kind is requested: only one, or all.
+-- Whether a kind is requested: only those of one name, or all.
 abbrev pub is_requested : Option Kind → Kind → Bool
 is_requested None kind = true
-is_requested (Some only) kind = number_of only == number_of kind
+is_requested (Some only) kind = have_one_name only kind
 
 -- Whether a finding is a fault of a requested kind.
 abbrev pub counts : Option Kind → Finding → Bool

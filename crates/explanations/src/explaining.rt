@@ -27,7 +27,7 @@ fn is_requested(request: Option<Kind>, kind: Kind) -> bool
     ensures { result ≡ is_requested request kind }
 {
     match request {
-        Some(only) => only.number() == kind.number(),
+        Some(only) => only.has_name_of(kind),
         None => true,
     }
 }

@@ -1,4 +1,5 @@
 pub mod Chains
 pub mod Kinds
+pub mod Orders
 pub mod Programs
 pub mod Values

@@ -1,251 +1,193 @@
-//! The kinds of findings.
-ghost use Rattle.std.specs.Prelude.{◌≡◌, ◌<◌};
-ghost use Rattle.finding_kinds.specs.Kinds.{is_fault, is_of_thread, is_of_row, number_of};
+//! The kinds of findings, by what they arise from.
 
-/// The kind of a finding. Findings of one moment are reported in this order.
-#[derive(Clone, Copy)]
+/// The kind of a finding. Findings of one moment are reported in the order of their kinds: by group,
+/// and within a group in the order of its kinds.
+#[derive(Clone, Copy, PartialEq, Eq, PartialOrd, Ord)]
 pub enum Kind {
-    /// A request completed with an error that no other kind covers.
-    Failed = 0,
-    /// A READ or WRITE moved fewer bytes than it asked for.
-    Short = 1,
-    /// A failed or short soft-linked request broke its chain (IOSQE_IO_LINK).
-    Severed = 2,
-    /// A request completed with ECANCELED.
-    Canceled = 3,
-    /// A LINK_TIMEOUT expired.
-    TimedOut = 4,
-    /// A TIMEOUT expired.
-    Expired = 5,
-    /// A cancel or removal matched nothing, whether of one request or of all.
-    NotFound = 6,
-    /// A cancel or removal found a running request (EALREADY).
-    TooLate = 7,
+    /// An event completed a request.
+    Ended(EndedKind),
     /// Completions went to the backlog, which was empty before.
-    Overflow = 8,
-    /// An enter returned EBUSY.
-    Busy = 9,
-    /// A thread waits in its enter to the end.
-    Waits = 10,
-    /// Entries wait to the end while the poller sleeps.
-    LostWakeUp = 11,
-    /// Entries wait to the end though no poller sleeps.
-    NotTaken = 12,
-    /// Completions remain in the ring or in the backlog to the end.
-    NotReaped = 13,
-    /// A request is incomplete at the end.
-    Unfinished = 14,
-    /// A buffer of an incomplete READ or WRITE was overwritten.
-    BufferInUse = 15,
-    /// Two unordered requests used the same bytes of a file, at least one of them a WRITE.
-    Unordered = 16,
-    /// Two unordered requests used the position of one descriptor.
-    SharedPosition = 17,
-    /// A WRITE was incomplete when a later FSYNC of its file completed.
-    FsyncEarly = 18,
-    /// An enter took fewer entries than it was asked to submit.
-    TakenShort = 19,
-    /// An index was pushed that names no slot.
-    NoSuchSlot = 20,
-    /// A linked entry is the last one of its submission, so that its chain ends there.
-    CutOff = 21,
-    /// A hard-linked request failed or was short, and its chain continued (IOSQE_IO_HARDLINK).
-    WentOn = 22,
-    /// An entry sets a field that has no effect.
-    NoEffect = 23,
-    /// A put changed a slot that was pushed and not yet taken.
-    SlotInUse = 24,
-    /// A descriptor was closed that a queued request or a pushed entry names.
-    ClosedEarly = 25,
-    /// A descriptor was closed that an issued request holds.
-    ClosedWhileHeld = 26,
-    /// A cancel or removal of one request matched more than one.
-    Several = 27,
-    /// A cancel of all left running requests (IORING_ASYNC_CANCEL_ALL).
-    LeftRunning = 28,
-    /// A request was submitted with the user_data of an earlier one that is incomplete.
-    SameUserData = 29,
-    /// A file has bytes at the end that were written and are not durable.
-    NotDurable = 30,
-    /// An enter returned EINVAL because of an unknown flag.
-    RefusedFlags = 31,
+    Overflow,
+    /// A condition lasts to the end.
+    Lasting(LastingKind),
+    /// A request or a file is left at the end.
+    Left(LeftKind),
+    /// An event conflicts with an incomplete READ or WRITE.
+    Conflict(ConflictKind),
+    /// A thread did a step.
+    Step(StepKind),
+    /// An event submitted a request.
+    Queued(QueuedKind),
+    /// An event completed a cancel or removal, by the requests that it matched.
+    Cancel(CancelKind),
 }
 
-/// All kinds.
-const KINDS: [Kind; 32] = [
-    Kind::Failed,
-    Kind::Short,
-    Kind::Severed,
-    Kind::Canceled,
-    Kind::TimedOut,
-    Kind::Expired,
-    Kind::NotFound,
-    Kind::TooLate,
-    Kind::Overflow,
-    Kind::Busy,
-    Kind::Waits,
-    Kind::LostWakeUp,
-    Kind::NotTaken,
-    Kind::NotReaped,
-    Kind::Unfinished,
-    Kind::BufferInUse,
-    Kind::Unordered,
-    Kind::SharedPosition,
-    Kind::FsyncEarly,
-    Kind::TakenShort,
-    Kind::NoSuchSlot,
-    Kind::CutOff,
-    Kind::WentOn,
-    Kind::NoEffect,
-    Kind::SlotInUse,
-    Kind::ClosedEarly,
-    Kind::ClosedWhileHeld,
-    Kind::Several,
-    Kind::LeftRunning,
-    Kind::SameUserData,
-    Kind::NotDurable,
-    Kind::RefusedFlags,
-];
+/// The kinds about a request that an event completes.
+#[derive(Clone, Copy, PartialEq, Eq, PartialOrd, Ord)]
+pub enum EndedKind {
+    /// It completed with an error that no other kind covers.
+    Failed,
+    /// A READ or WRITE moved fewer bytes than it asked for.
+    Short,
+    /// A failed or short soft-linked request broke its chain (IOSQE_IO_LINK).
+    Severed,
+    /// It completed with ECANCELED.
+    Canceled,
+    /// A LINK_TIMEOUT expired.
+    TimedOut,
+    /// A TIMEOUT expired.
+    Expired,
+    /// A cancel or removal of one request matched none (ENOENT).
+    NotFound,
+    /// A cancel or removal found a running request (EALREADY).
+    TooLate,
+    /// A hard-linked request failed or was short, and its chain continued (IOSQE_IO_HARDLINK).
+    WentOn,
+}
 
-impl Kind {
-    /// Returns the kind with this name, or None.
-    pub fn of_word(word: &str) -> Option<Kind> {
-        for kind in KINDS {
-            if kind.word() == word {
-                return Some(kind);
-            }
-        }
-        None
-    }
+impl EndedKind {
+    /// All kinds of the group, in order.
+    pub const ALL: [EndedKind; 9] = [
+        EndedKind::Failed,
+        EndedKind::Short,
+        EndedKind::Severed,
+        EndedKind::Canceled,
+        EndedKind::TimedOut,
+        EndedKind::Expired,
+        EndedKind::NotFound,
+        EndedKind::TooLate,
+        EndedKind::WentOn,
+    ];
+}
 
-    /// Returns the name of the kind on the command line and in reports.
-    pub fn word(self) -> &'static str {
-        match self {
-            Kind::Failed => "failed",
-            Kind::Short => "short",
-            Kind::Severed => "severed",
-            Kind::Canceled => "canceled",
-            Kind::TimedOut => "timed-out",
-            Kind::Expired => "expired",
-            Kind::NotFound => "not-found",
-            Kind::TooLate => "too-late",
-            Kind::Overflow => "overflow",
-            Kind::Busy => "busy",
-            Kind::Waits => "waits",
-            Kind::LostWakeUp => "lost-wake-up",
-            Kind::NotTaken => "not-taken",
-            Kind::NotReaped => "not-reaped",
-            Kind::Unfinished => "unfinished",
-            Kind::BufferInUse => "buffer-in-use",
-            Kind::Unordered => "unordered",
-            Kind::SharedPosition => "shared-position",
-            Kind::FsyncEarly => "fsync-early",
-            Kind::TakenShort => "taken-short",
-            Kind::NoSuchSlot => "no-such-slot",
-            Kind::CutOff => "cut-off",
-            Kind::WentOn => "went-on",
-            Kind::NoEffect => "no-effect",
-            Kind::SlotInUse => "slot-in-use",
-            Kind::ClosedEarly => "closed-early",
-            Kind::ClosedWhileHeld => "closed-while-held",
-            Kind::Several => "several",
-            Kind::LeftRunning => "left-running",
-            Kind::SameUserData => "same-user-data",
-            Kind::NotDurable => "not-durable",
-            Kind::RefusedFlags => "refused-flags",
-        }
-    }
+/// The kinds about a condition that lasts to the end.
+#[derive(Clone, Copy, PartialEq, Eq, PartialOrd, Ord)]
+pub enum LastingKind {
+    /// A thread waits in its enter.
+    Waits,
+    /// Entries wait while the poller sleeps.
+    LostWakeUp,
+    /// Entries wait though no poller sleeps.
+    NotTaken,
+    /// Completions remain in the ring or in the backlog.
+    NotReaped,
+}
 
-    /// Returns whether findings of this kind are faults (bugs or losses) rather than notes.
-    pub fn is_fault(self) -> bool
-        ensures { result ≡ is_fault self }
-    {
-        match self {
-            Kind::Failed
-            | Kind::Short
-            | Kind::Severed
-            | Kind::TimedOut
-            | Kind::NotFound
-            | Kind::TooLate
-            | Kind::Overflow
-            | Kind::Busy
-            | Kind::Waits
-            | Kind::LostWakeUp
-            | Kind::NotTaken
-            | Kind::Unfinished
-            | Kind::BufferInUse
-            | Kind::Unordered
-            | Kind::SharedPosition
-            | Kind::TakenShort
-            | Kind::NoSuchSlot
-            | Kind::CutOff
-            | Kind::SlotInUse
-            | Kind::ClosedEarly
-            | Kind::RefusedFlags => true,
-            Kind::Canceled
-            | Kind::Expired
-            | Kind::NotReaped
-            | Kind::FsyncEarly
-            | Kind::WentOn
-            | Kind::NoEffect
-            | Kind::ClosedWhileHeld
-            | Kind::Several
-            | Kind::LeftRunning
-            | Kind::SameUserData
-            | Kind::NotDurable => false,
-        }
-    }
+impl LastingKind {
+    /// All kinds of the group, in order.
+    pub const ALL: [LastingKind; 4] = [
+        LastingKind::Waits,
+        LastingKind::LostWakeUp,
+        LastingKind::NotTaken,
+        LastingKind::NotReaped,
+    ];
+}
 
-    /// Returns whether the subject of such a finding is a thread.
-    pub fn is_of_thread(self) -> bool
-        ensures { result ≡ is_of_thread self }
-    {
-        matches!(
-            self,
-            Kind::Busy
-                | Kind::Waits
-                | Kind::TakenShort
-                | Kind::NoSuchSlot
-                | Kind::SlotInUse
-                | Kind::ClosedEarly
-                | Kind::ClosedWhileHeld
-                | Kind::RefusedFlags
-        )
-    }
+/// The kinds about what is left at the end.
+#[derive(Clone, Copy, PartialEq, Eq, PartialOrd, Ord)]
+pub enum LeftKind {
+    /// A request is incomplete.
+    Unfinished,
+    /// A file has bytes that were written and are not durable.
+    NotDurable,
+}
 
-    /// Returns whether the subject of such a finding is a request.
-    pub fn is_of_row(self) -> bool
-        ensures { result ≡ is_of_row self }
-    {
-        matches!(
-            self,
-            Kind::Failed
-                | Kind::Short
-                | Kind::Severed
-                | Kind::Canceled
-                | Kind::TimedOut
-                | Kind::Expired
-                | Kind::NotFound
-                | Kind::TooLate
-                | Kind::Unfinished
-                | Kind::BufferInUse
-                | Kind::Unordered
-                | Kind::SharedPosition
-                | Kind::FsyncEarly
-                | Kind::CutOff
-                | Kind::WentOn
-                | Kind::NoEffect
-                | Kind::Several
-                | Kind::LeftRunning
-                | Kind::SameUserData
-        )
-    }
+impl LeftKind {
+    /// All kinds of the group, in order.
+    pub const ALL: [LeftKind; 2] = [LeftKind::Unfinished, LeftKind::NotDurable];
+}
 
-    /// Returns the position of the kind in the order of reports.
-    pub fn number(self) -> u32
-        ensures value { result ≡ number_of self }
-        ensures within { result < 32 }
-    {
-        self as u32
-    }
+/// The kinds about a conflict with an incomplete READ or WRITE.
+#[derive(Clone, Copy, PartialEq, Eq, PartialOrd, Ord)]
+pub enum ConflictKind {
+    /// Its buffer was overwritten.
+    BufferInUse,
+    /// An unordered request used the same bytes of its file, and one of the two is a WRITE.
+    Unordered,
+    /// An unordered request used the position of its descriptor.
+    SharedPosition,
+    /// A later FSYNC of its file completed before this WRITE.
+    FsyncEarly,
+}
+
+impl ConflictKind {
+    /// All kinds of the group, in order.
+    pub const ALL: [ConflictKind; 4] = [
+        ConflictKind::BufferInUse,
+        ConflictKind::Unordered,
+        ConflictKind::SharedPosition,
+        ConflictKind::FsyncEarly,
+    ];
+}
+
+/// The kinds about a step of a thread.
+#[derive(Clone, Copy, PartialEq, Eq, PartialOrd, Ord)]
+pub enum StepKind {
+    /// An enter returned EBUSY.
+    Busy,
+    /// An enter took fewer entries than it was asked to submit.
+    TakenShort,
+    /// An index was pushed that names no slot.
+    NoSuchSlot,
+    /// A put changed a slot that was pushed and not yet taken.
+    SlotInUse,
+    /// A descriptor was closed that a queued request or a pushed entry names.
+    ClosedEarly,
+    /// A descriptor was closed that an issued request holds.
+    ClosedWhileHeld,
+    /// An enter returned EINVAL because of an unknown flag.
+    RefusedFlags,
+}
+
+impl StepKind {
+    /// All kinds of the group, in order.
+    pub const ALL: [StepKind; 7] = [
+        StepKind::Busy,
+        StepKind::TakenShort,
+        StepKind::NoSuchSlot,
+        StepKind::SlotInUse,
+        StepKind::ClosedEarly,
+        StepKind::ClosedWhileHeld,
+        StepKind::RefusedFlags,
+    ];
+}
+
+/// The kinds about a request that an event submits.
+#[derive(Clone, Copy, PartialEq, Eq, PartialOrd, Ord)]
+pub enum QueuedKind {
+    /// A linked entry is the last one of its submission, so that its chain ends there.
+    CutOff,
+    /// The entry sets a field that has no effect.
+    NoEffect,
+    /// An earlier request that is incomplete has the same user_data.
+    SameUserData,
+}
+
+impl QueuedKind {
+    /// All kinds of the group, in order.
+    pub const ALL: [QueuedKind; 3] = [
+        QueuedKind::CutOff,
+        QueuedKind::NoEffect,
+        QueuedKind::SameUserData,
+    ];
+}
+
+/// The kinds about the requests that a completed cancel or removal matched.
+#[derive(Clone, Copy, PartialEq, Eq, PartialOrd, Ord)]
+pub enum CancelKind {
+    /// A cancel of all matched none (IORING_ASYNC_CANCEL_ALL).
+    NoneFound,
+    /// A cancel or removal of one request matched more than one.
+    Several,
+    /// A cancel of all left running requests (IORING_ASYNC_CANCEL_ALL).
+    LeftRunning,
+}
+
+impl CancelKind {
+    /// All kinds of the group, in order.
+    pub const ALL: [CancelKind; 3] = [
+        CancelKind::NoneFound,
+        CancelKind::Several,
+        CancelKind::LeftRunning,
+    ];
 }

@@ -4,18 +4,22 @@
 
 mod chains;
 mod descriptors;
+mod facts;
 mod finding;
 mod history;
 mod kind;
 mod limits;
+mod naming;
 mod programs;
 mod values;
 
 pub use chains::distance_to_next;
 pub use descriptors::{FIRST_DESCRIPTOR, descriptor_number};
-pub use finding::{Finding, rank};
+pub use finding::Finding;
 pub use history::{History, Met, Times};
-pub use kind::Kind;
+pub use kind::{
+    CancelKind, ConflictKind, EndedKind, Kind, LastingKind, LeftKind, QueuedKind, StepKind,
+};
 pub use limits::{LOOKED_BACK, MOST_ROWS};
 pub use programs::instruction_at;
 pub use values::{differs_at, number_at};

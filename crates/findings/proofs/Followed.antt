@@ -1,6 +1,6 @@
 -- What a search has seen, after one more event and at the end.
-use Rattle.std.proofs.Common.{◌≡◌, inl, inr, ℕ, zero, suc, ◌+◌, ◌<◌, ◌≤◌, List, [], ◌++◌, length, map, get_or, slice_get, Bool, true, false, Option, Some, None, sym, ap, ◌∙◌, subst, arith}
-use Rattle.std.proofs.lemmas.Bool.{cases_lt, cases_order, or_cases}
+use Rattle.std.proofs.Common.{◌≡◌, inl, inr, ℕ, zero, suc, ◌+◌, ◌<◌, ◌≤◌, List, [], ◌++◌, length, map, get_or, slice_get, Bool, true, false, Option, Some, None, refl, sym, ap, ◌∙◌, subst, arith}
+use Rattle.std.proofs.lemmas.Bool.{cases_lt, cases_order}
 use Rattle.std.proofs.lemmas.List.Elements.{All-nil, All-append, All-weaker, All-contains, Contains-append_left, Contains-append_right, Contains-get_or}
 use Rattle.std.proofs.lemmas.Option.{slice_get_past}
 use Rattle.std.specs.Prelude.{option_map}
@@ -17,21 +17,26 @@ use Rattle.machine.specs.Whole.{view}
 use Rattle.runs.specs.Moments.{IsAt, IsAfter}
 use Rattle.finding_kinds.specs.declared.finding.Finding.{Finding}
 use Rattle.finding_kinds.specs.declared.kind.Kind.{Kind}
+use Rattle.finding_kinds.specs.declared.kind.Kind.TheVariants.{Ended, Overflow, Conflict, Step, Queued, Cancel}
 use Rattle.finding_kinds.specs.Programs.{instruction_at}
 use Rattle.findings.specs.declared.conditions.Before.{Before}
 use Rattle.findings.specs.declared.watching.Watch.{Watch}
-use Rattle.findings.specs.Conditions.{Began, overflows}
+use Rattle.findings.specs.Conditions.{overflows}
 use Rattle.findings.specs.Conflicts.{done_as, done_at}
-use Rattle.findings.specs.Findings.{occurs, occurs_at, condition_holds_at, IsLeft, IsFinding, IsReportOf, Rises}
+use Rattle.findings.specs.Findings.{occurs, occurs_at, Lasts, IsLeft, IsFinding, IsReportOf, Rises}
 use Rattle.findings.specs.Records.{of_change, of_overflow, of_step, of_cancel, of_event, of_effect, after_notes, Covers, Adds, FoundBefore, IsLasting, AreLeft, IsAll, all_left, all_unsynced, SameFindings}
 use Rattle.findings.specs.Searching.{facts_before, NotesFacts, HasSearched}
 use Rattle.findings.specs.Watched.{advanced, watched, of_lasting}
 use Rattle.findings.proofs.Lasting.{watched_first, advanced_more, lasting_reported}
 use Rattle.findings.proofs.Left.{all_at_end}
-use Rattle.findings.proofs.WouldConflict.{IsDone, effect_done, effect_there}
+use Rattle.findings.proofs.WouldConflict.{effect_done, effect_there}
 use Rattle.findings.proofs.Candidates.{covers_more, covers_none}
+use Rattle.findings.proofs.Groups.{the_finding}
 use Rattle.findings.proofs.Members.{Has, has_left, has_right, has_contains}
-use Rattle.findings.proofs.Shown.{IsShown, IsRung, or_first, or_second, record_shown, shown_there, event_rung, rung_there}
+use Rattle.findings.proofs.Shown.{IsShown, record_shown, ended_there, queued_there, event_shown, event_overflow, event_step, event_cancel}
+
+false_true : false ≡ true → ⊥
+false_true e = cc
 
 -- A finding whose event is before moment n.
 abbrev IsEarly : Setup → List Event → ℕ → Finding → Type 0
@@ -84,40 +89,38 @@ found_more s es i e fs gs numbers now there h covered adds = record {
     reported : (f : Finding) → f.moment ≡ i → is_shown s (machine_at s es i) e f.kind f.subject ≡ true → IsEarly s es (i + 1) f
     reported f same k = (omega arith, moved s es i f same ∙ at_moment s es i e f.kind f.subject there ∙ k)
 
+    shown_reported : (xs : List Finding) → All (IsShown s i (machine_at s es i) e (after (machine_at s es i) e)) xs → All (IsEarly s es (i + 1)) xs
+    shown_reported = All-weaker (IsShown s i (machine_at s es i) e (after (machine_at s es i) e)) (IsEarly s es (i + 1)) (λ f p. reported f p.0 p.1)
+
     rows_reported : All (IsEarly s es (i + 1)) (of_rows i (after (machine_at s es i) e) adds.past)
-    rows_reported =
-        All-weaker (IsShown i (machine_at s es i) (after (machine_at s es i) e)) (IsEarly s es (i + 1)) (λ f p. reported f p.0 (or_first _ _ (or_first _ _ p.1))) _
-        (record_shown i (machine_at s es i) (after (machine_at s es i) e) adds.past adds.exact adds.once)
+    rows_reported = shown_reported _ (record_shown s i (machine_at s es i) e (after (machine_at s es i) e) adds.past adds.exact adds.once)
 
     rings_reported : All (IsEarly s es (i + 1)) (of_event s i (machine_at s es i) e (after (machine_at s es i) e))
-    rings_reported =
-        All-weaker (IsRung s i (machine_at s es i) e (after (machine_at s es i) e)) (IsEarly s es (i + 1)) (λ f p. reported f p.0 (or_first _ _ (or_second _ _ p.1))) _
-        (event_rung s i (machine_at s es i) e (after (machine_at s es i) e))
+    rings_reported = shown_reported _ (event_shown s i (machine_at s es i) e (after (machine_at s es i) e))
 
     effects_reported : All (IsEarly s es (i + 1)) (of_effects s i (machine_at s es i) e (after (machine_at s es i) e) now)
-    effects_reported =
-        All-weaker (IsDone i s (after (machine_at s es i) e) (done_at s (machine_at s es i) e (after (machine_at s es i) e))) (IsEarly s es (i + 1)) (λ f p. reported f p.0 (or_second _ _ p.1)) _
-        (effect_done i s (after (machine_at s es i) e) (done_at s (machine_at s es i) e (after (machine_at s es i) e)) now)
+    effects_reported = effect_done (IsEarly s es (i + 1)) i s (after (machine_at s es i) e) (done_at s (machine_at s es i) e (after (machine_at s es i) e)) now (λ kind q h. reported (the_finding i (Conflict kind) q) refl h)
 
     back : (f : Finding) → f.moment ≡ i → (xs : List Finding) → Has xs (record { moment = i; kind = f.kind; subject = f.subject }) → Has xs f
     back f same xs has = subst (λ (k : ℕ). Has xs (record { moment = k; kind = f.kind; subject = f.subject })) (sym same) has
 
-    now_reported : (f : Finding) → f.moment ≡ i → occurs_at s es f.moment f.kind f.subject ≡ true
-        → Has (((fs ++ of_rows i (after (machine_at s es i) e) adds.past) ++ of_event s i (machine_at s es i) e (after (machine_at s es i) e)) ++ of_effects s i (machine_at s es i) e (after (machine_at s es i) e) now) f
-    now_reported f same k =
-        let shown : is_shown s (machine_at s es i) e f.kind f.subject ≡ true = sym (at_moment s es i e f.kind f.subject there) ∙ sym (moved s es i f same) ∙ k in
-        elim (or_cases _ _ shown) [
-          | inl early ↦ has_left _ (of_effects s i (machine_at s es i) e (after (machine_at s es i) e) now) f
-              (elim (or_cases _ _ early) [
-                | inl row ↦ has_left (fs ++ of_rows i (after (machine_at s es i) e) adds.past) (of_event s i (machine_at s es i) e (after (machine_at s es i) e)) f
-                    (has_right fs (of_rows i (after (machine_at s es i) e) adds.past) f
-                    (back f same _ (shown_there i (machine_at s es i) (after (machine_at s es i) e) adds.past f.kind f.subject adds.exact row)))
-                | inr ring ↦ has_right (fs ++ of_rows i (after (machine_at s es i) e) adds.past) (of_event s i (machine_at s es i) e (after (machine_at s es i) e)) f
-                    (back f same _ (rung_there s i (machine_at s es i) e (after (machine_at s es i) e) f.kind f.subject ring))
-              ])
-          | inr effects ↦ has_right ((fs ++ of_rows i (after (machine_at s es i) e) adds.past) ++ of_event s i (machine_at s es i) e (after (machine_at s es i) e)) (of_effects s i (machine_at s es i) e (after (machine_at s es i) e) now) f
-              (back f same _ (effect_there i s (after (machine_at s es i) e) (done_at s (machine_at s es i) e (after (machine_at s es i) e)) now f.kind f.subject covered effects))
-        ]
+    in_rows : (f : Finding) → Has (of_rows i (after (machine_at s es i) e) adds.past) f → Has (((fs ++ of_rows i (after (machine_at s es i) e) adds.past) ++ of_event s i (machine_at s es i) e (after (machine_at s es i) e)) ++ of_effects s i (machine_at s es i) e (after (machine_at s es i) e) now) f
+    in_rows f h = has_left ((fs ++ of_rows i (after (machine_at s es i) e) adds.past) ++ of_event s i (machine_at s es i) e (after (machine_at s es i) e)) _ f (has_left (fs ++ of_rows i (after (machine_at s es i) e) adds.past) _ f (has_right fs _ f h))
+
+    in_event : (f : Finding) → Has (of_event s i (machine_at s es i) e (after (machine_at s es i) e)) f → Has (((fs ++ of_rows i (after (machine_at s es i) e) adds.past) ++ of_event s i (machine_at s es i) e (after (machine_at s es i) e)) ++ of_effects s i (machine_at s es i) e (after (machine_at s es i) e) now) f
+    in_event f h = has_left ((fs ++ of_rows i (after (machine_at s es i) e) adds.past) ++ of_event s i (machine_at s es i) e (after (machine_at s es i) e)) _ f (has_right (fs ++ of_rows i (after (machine_at s es i) e) adds.past) _ f h)
+
+    occurs_there : (kind : Kind) (n : ℕ) → is_shown s (machine_at s es i) e kind n ≡ true → Has (((fs ++ of_rows i (after (machine_at s es i) e) adds.past) ++ of_event s i (machine_at s es i) e (after (machine_at s es i) e)) ++ of_effects s i (machine_at s es i) e (after (machine_at s es i) e) now) (the_finding i kind n)
+    occurs_there (Ended kind) n k = in_rows _ (ended_there i (machine_at s es i) (after (machine_at s es i) e) adds.past kind n adds.exact k)
+    occurs_there (Queued kind) n k = in_rows _ (queued_there i (machine_at s es i) (after (machine_at s es i) e) adds.past kind n adds.exact k)
+    occurs_there Overflow n k = in_event _ (event_overflow s i (machine_at s es i) e (after (machine_at s es i) e) n k)
+    occurs_there (Step kind) n k = in_event _ (event_step s i (machine_at s es i) e (after (machine_at s es i) e) kind n k)
+    occurs_there (Cancel kind) n k = in_event _ (event_cancel s i (machine_at s es i) e (after (machine_at s es i) e) kind n k)
+    occurs_there (Conflict kind) n k = has_right ((fs ++ of_rows i (after (machine_at s es i) e) adds.past) ++ of_event s i (machine_at s es i) e (after (machine_at s es i) e)) _ _ (effect_there i s (after (machine_at s es i) e) (done_at s (machine_at s es i) e (after (machine_at s es i) e)) now kind n covered k)
+    occurs_there _ n k = absurd (false_true k)
+
+    now_reported : (f : Finding) → f.moment ≡ i → occurs_at s es f.moment f.kind f.subject ≡ true → Has (((fs ++ of_rows i (after (machine_at s es i) e) adds.past) ++ of_event s i (machine_at s es i) e (after (machine_at s es i) e)) ++ of_effects s i (machine_at s es i) e (after (machine_at s es i) e) now) f
+    now_reported f same k = back f same _ (occurs_there f.kind f.subject (sym (at_moment s es i e f.kind f.subject there) ∙ sym (moved s es i f same) ∙ k))
 
     member : (f : Finding) → f.moment < i + 1 → occurs_at s es f.moment f.kind f.subject ≡ true
         → Contains (((fs ++ of_rows i (after (machine_at s es i) e) adds.past) ++ of_event s i (machine_at s es i) e (after (machine_at s es i) e)) ++ of_effects s i (machine_at s es i) e (after (machine_at s es i) e) now) f
@@ -169,9 +172,6 @@ seen_more s es i n e b past fs gs numbers now ws xs h noted at added once furthe
       further = further;
     }
 
-false_true : false ≡ true → ⊥
-false_true e = cc
-
 -- The moment of an event's finding is below the number of events.
 within : (s : Setup) (es : List Event) (f : Finding) → occurs_at s es f.moment f.kind f.subject ≡ true → f.moment < length es
 within s es f h =
@@ -191,7 +191,7 @@ all_found s es fs ls us gs h lasting left e = subst (IsAll s es) (sym e) (record
   only = All-append (IsFinding s es) (fs ++ ls) us
       (All-append (IsFinding s es) fs ls
       (All-weaker (IsEarly s es (length es)) (IsFinding s es) (λ f p. inl p.1) fs h.only)
-      (All-weaker (λ (f : Finding). Began (condition_holds_at s es f.kind f.subject) (length es) f.moment) (IsFinding s es) (λ f p. inr (inl p)) ls lasting.only))
+      (All-weaker (Lasts s es) (IsFinding s es) (λ f p. inr (inl p)) ls lasting.only))
       (All-weaker (IsLeft s es) (IsFinding s es) (λ f p. inr (inr p)) us left.only);
   whole = λ f k. elim k [
     | inl shown ↦ Contains-append_left (fs ++ ls) us f (Contains-append_left fs ls f (h.whole f (within s es f shown) shown))
@@ -206,7 +206,7 @@ pub seen_all : (s : Setup) (es : List Event) (m : Machine) (fs gs : List Finding
 seen_all s es m fs gs numbers ws xs h at w e = all_found s es fs _ _ gs h.found (lasting_reported s es xs (w ∙ h.watching)) (all_at_end s es m at.here) e
 
 -- All findings, sorted, are the report.
-pub report_of : (s : Setup) (es : List Event) (fs gs : List Finding) → IsAll s es fs → SameFindings fs gs → Rises zero gs → IsReportOf s es gs
+pub report_of : (s : Setup) (es : List Event) (fs gs : List Finding) → IsAll s es fs → SameFindings fs gs → Rises gs → IsReportOf s es gs
 report_of s es fs gs h same order = record {
   only = λ k d l. All-contains (IsFinding s es) fs (get_or gs k d) h.only (same.back (get_or gs k d) (Contains-get_or gs k d l));
   whole = λ f k. same.there f (h.whole f k);

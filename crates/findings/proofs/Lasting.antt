@@ -12,13 +12,16 @@ use Rattle.machine.specs.declared.whole.Machine.{Machine}
 use Rattle.machine.specs.Runs.{start, moment as machine_at}
 use Rattle.finding_kinds.specs.declared.finding.Finding.{Finding}
 use Rattle.finding_kinds.specs.declared.kind.Kind.{Kind}
-use Rattle.finding_kinds.specs.declared.kind.Kind.TheVariants.{Waits, LostWakeUp, NotTaken, NotReaped}
+use Rattle.finding_kinds.specs.declared.kind.Kind.TheVariants.{Lasting}
+use Rattle.finding_kinds.specs.declared.kind.LastingKind.{LastingKind}
+use Rattle.finding_kinds.specs.declared.kind.LastingKind.TheVariants.{Waits, LostWakeUp, NotTaken, NotReaped}
 use Rattle.findings.specs.declared.watching.Watch.{Watch}
 use Rattle.findings.specs.Conditions.{condition_holds, Began}
-use Rattle.findings.specs.Findings.{condition_holds_at}
+use Rattle.findings.specs.Findings.{condition_holds_at, LastsSince, Lasts}
 use Rattle.findings.specs.Records.{IsLasting}
 use Rattle.findings.specs.Searching.{since_of, watch_at}
 use Rattle.findings.specs.Watched.{continued, advanced, fresh, numbers_below, watched, of_watch, of_lasting}
+use Rattle.findings.proofs.Groups.{the_finding}
 use Rattle.findings.proofs.Members.{Has, has_left, has_right, has_flat_map, has_contains}
 
 false_true : false ≡ true → ⊥
@@ -146,20 +149,17 @@ mapped_back f xs old new rest n v e l =
 
 -- ---- their findings
 
-abbrev IsOn : Setup → List Event → ℕ → Finding → Type 0
-IsOn s es n f = Began (condition_holds_at s es f.kind f.subject) n f.moment
-
-watch_on : (s : Setup) (es : List Event) (n : ℕ) (w : Watch) → All (IsOn s es n) (of_lasting (watch_at s es n w))
-watch_on s es n w = by (since_of (condition_holds_at s es w.kind w.subject) n) refl
+watch_lasts : (s : Setup) (es : List Event) (w : Watch) → All (Lasts s es) (of_lasting (watch_at s es (length es) w))
+watch_lasts s es w = by (since_of (condition_holds_at s es w.kind w.subject) (length es)) refl
   where
-    by : (o : Option ℕ) → since_of (condition_holds_at s es w.kind w.subject) n ≡ o → All (IsOn s es n) (of_watch w.kind w.subject o)
-    by None e = All-nil (IsOn s es n)
-    by (Some i) e = All-cons (IsOn s es n) (record { moment = i; kind = w.kind; subject = w.subject }) [] (since_begins (condition_holds_at s es w.kind w.subject) n i e) (All-nil (IsOn s es n))
+    by : (o : Option ℕ) → since_of (condition_holds_at s es w.kind w.subject) (length es) ≡ o → All (Lasts s es) (of_watch w.kind w.subject o)
+    by None e = All-nil (Lasts s es)
+    by (Some i) e = All-cons (Lasts s es) (the_finding i (Lasting w.kind) w.subject) [] (since_begins (condition_holds_at s es w.kind w.subject) (length es) i e) (All-nil (Lasts s es))
 
-watches_on : (s : Setup) (es : List Event) (n : ℕ) (ws : List Watch) → All (IsOn s es n) (flat_map of_lasting (map (watch_at s es n) ws))
-watches_on s es n [] = All-nil (IsOn s es n)
-watches_on s es n (w ∷ ws) =
-    All-append (IsOn s es n) (of_lasting (watch_at s es n w)) (flat_map of_lasting (map (watch_at s es n) ws)) (watch_on s es n w) (watches_on s es n ws)
+watches_last : (s : Setup) (es : List Event) (ws : List Watch) → All (Lasts s es) (flat_map of_lasting (map (watch_at s es (length es)) ws))
+watches_last s es [] = All-nil (Lasts s es)
+watches_last s es (w ∷ ws) =
+    All-append (Lasts s es) (of_lasting (watch_at s es (length es) w)) (flat_map of_lasting (map (watch_at s es (length es)) ws)) (watch_lasts s es w) (watches_last s es ws)
 
 has_map : {X Y : Type 0} (f : X → Y) (xs : List X) (x : X) → Has xs x → Has (map f xs) (f x)
 has_map f [] x h = absurd h
@@ -175,28 +175,31 @@ below_there n (suc m) l =
     ]
 
 -- Each condition that can hold is watched.
-watched_has : (s : Setup) (kind : Kind) (m : Machine) (n : ℕ) → condition_holds s kind m n ≡ true → Has (watched s) (fresh kind n)
+watched_has : (s : Setup) (kind : LastingKind) (m : Machine) (n : ℕ) → condition_holds s kind m n ≡ true → Has (watched s) (fresh kind n)
 watched_has s LostWakeUp m n h = let e : n ≡ zero = eqb-true n zero (and_parts _ _ h).0 in inl (ap (fresh LostWakeUp) (sym e))
 watched_has s NotTaken m n h = let e : n ≡ zero = eqb-true n zero (and_parts _ _ h).0 in inr (inl (ap (fresh NotTaken) (sym e)))
 watched_has s NotReaped m n h = let e : n ≡ zero = eqb-true n zero (and_parts _ _ h).0 in inr (inr (inl (ap (fresh NotReaped) (sym e))))
 watched_has s Waits m n h =
     let l : n < length s.threads = ltb-true n (length s.threads) (and_parts _ _ h).0 in
     inr (inr (inr (has_map (fresh Waits) (numbers_below (length s.threads)) n (below_there n (length s.threads) l))))
-watched_has s _ m n h = absurd (false_true h)
 
-watch_reported : (s : Setup) (es : List Event) (n : ℕ) (f : Finding) → IsOn s es n f → Has (flat_map of_lasting (map (watch_at s es n) (watched s))) f
-watch_reported s es n f h =
-    let holds_now : condition_holds s f.kind (machine_at s es n) f.subject ≡ true = h.lasts n h.within (omega arith) in
-    let there = has_map (watch_at s es n) (watched s) (fresh f.kind f.subject) (watched_has s f.kind (machine_at s es n) f.subject holds_now) in
-    let since : since_of (condition_holds_at s es f.kind f.subject) n ≡ Some f.moment = begins_since (condition_holds_at s es f.kind f.subject) n f.moment h in
-    let reported : Has (of_lasting (watch_at s es n (fresh f.kind f.subject))) f =
-    subst (λ (o : Option ℕ). Has (of_watch f.kind f.subject o) f) (sym since) (inl refl)
+watch_reported : (s : Setup) (es : List Event) (i : ℕ) (kind : LastingKind) (n : ℕ) → Began (condition_holds_at s es kind n) (length es) i → Has (flat_map of_lasting (map (watch_at s es (length es)) (watched s))) (the_finding i (Lasting kind) n)
+watch_reported s es i kind n h =
+    let holds_now : condition_holds s kind (machine_at s es (length es)) n ≡ true = h.lasts (length es) h.within (omega arith) in
+    let there = has_map (watch_at s es (length es)) (watched s) (fresh kind n) (watched_has s kind (machine_at s es (length es)) n holds_now) in
+    let since : since_of (condition_holds_at s es kind n) (length es) ≡ Some i = begins_since (condition_holds_at s es kind n) (length es) i h in
+    let reported : Has (of_lasting (watch_at s es (length es) (fresh kind n))) (the_finding i (Lasting kind) n) =
+    subst (λ (o : Option ℕ). Has (of_watch kind n o) (the_finding i (Lasting kind) n)) (sym since) (inl refl)
     in
-    has_flat_map of_lasting (map (watch_at s es n) (watched s)) (watch_at s es n (fresh f.kind f.subject)) f there reported
+    has_flat_map of_lasting (map (watch_at s es (length es)) (watched s)) (watch_at s es (length es) (fresh kind n)) (the_finding i (Lasting kind) n) there reported
+
+lasts_reported : (s : Setup) (es : List Event) (i : ℕ) (kind : Kind) (n : ℕ) → LastsSince s es i kind n → Has (flat_map of_lasting (map (watch_at s es (length es)) (watched s))) (the_finding i kind n)
+lasts_reported s es i (Lasting kind) n h = watch_reported s es i kind n h
+lasts_reported s es i _ n h = absurd h
 
 -- The findings of the watched conditions are those that last to the end.
 pub lasting_reported : (s : Setup) (es : List Event) (ws : List Watch) → ws ≡ map (watch_at s es (length es)) (watched s) → IsLasting s es (flat_map of_lasting ws)
 lasting_reported s es ws e = subst (λ (xs : List Watch). IsLasting s es (flat_map of_lasting xs)) (sym e) (record {
-  only = watches_on s es (length es) (watched s);
-  whole = λ f h. has_contains _ f (watch_reported s es (length es) f h);
+  only = watches_last s es (watched s);
+  whole = λ f h. has_contains _ f (lasts_reported s es f.moment f.kind f.subject h);
 })

@@ -4,7 +4,7 @@ use Rattle.std.proofs.lemmas.List.{drop_all}
 use Rattle.std.proofs.lemmas.List.Elements.{All-nil, All-cons, All-append}
 use Rattle.std.proofs.lemmas.Bool.{and_parts, and_from, lt-ltb, ltb-true}
 use Rattle.std.proofs.lemmas.Grind.{flat_map-append}
-use Rattle.std.specs.Prelude.{Option, Some, None, slice_get, nat_lt}
+use Rattle.std.specs.Prelude.{Option, Some, None, slice_get, nat_lt, ◌&&◌}
 use Rattle.std.specs.Option.{option_map_or}
 use Rattle.std.specs.List.{All, flat_map, enumerate_from}
 use Rattle.entries.specs.declared.row.Row.{Row}
@@ -16,11 +16,14 @@ use Rattle.machine.specs.declared.whole.Machine.{Machine}
 use Rattle.machine.specs.Runs.{moment as machine_at}
 use Rattle.finding_kinds.specs.declared.finding.Finding.{Finding}
 use Rattle.finding_kinds.specs.declared.kind.Kind.{Kind}
-use Rattle.finding_kinds.specs.declared.kind.Kind.TheVariants.{Unfinished, NotDurable}
+use Rattle.finding_kinds.specs.declared.kind.Kind.TheVariants.{Left}
+use Rattle.finding_kinds.specs.declared.kind.LeftKind.{LeftKind}
+use Rattle.finding_kinds.specs.declared.kind.LeftKind.TheVariants.{Unfinished, NotDurable}
 use Rattle.findings.specs.Conditions.{has_unsynced, is_left}
-use Rattle.findings.specs.Findings.{IsLeft}
-use Rattle.findings.specs.Records.{given, of_left, all_left, of_object, all_unsynced, AreLeft}
+use Rattle.findings.specs.Findings.{IsLeftAt, IsLeft}
+use Rattle.findings.specs.Records.{of_left, all_left, of_object, all_unsynced, AreLeft}
 use Rattle.findings.specs.Watched.{numbers_below}
+use Rattle.findings.proofs.Groups.{the_finding, given_only, given_there}
 use Rattle.findings.proofs.Lasting.{below_there}
 use Rattle.findings.proofs.Members.{Has, has_left, has_right, has_flat_map, has_contains}
 
@@ -31,23 +34,15 @@ row_first [] rest (suc k) row e = cc
 row_first (x ∷ rows) rest zero row e = (let h : x ≡ row = cc in ap Some h, let t : rows ≡ rest = cc in t)
 row_first (x ∷ rows) rest (suc k) row e = row_first rows rest k row e
 
--- A finding about an incomplete request of a table at moment n.
-abbrev IsOpen : ℕ → List Row → Finding → Type 0
-IsOpen n rows f = (f.moment ≡ n) × ((f.kind ≡ Unfinished) × (option_map_or is_open (slice_get rows f.subject) false ≡ true))
-
-given_open : (n k : ℕ) (rows : List Row) (row : Row) → slice_get rows k ≡ Some row → All (IsOpen n rows) (of_left n (k, row))
-given_open n k rows row e = by (is_open row) refl
-  where
-    by : (b : Bool) → is_open row ≡ b → All (IsOpen n rows) (given b (record { moment = n; kind = Unfinished; subject = k }))
-    by true t = All-cons (IsOpen n rows) (record { moment = n; kind = Unfinished; subject = k }) [] (refl, (refl, ap (λ (o : Option Row). option_map_or is_open o false) e ∙ t)) (All-nil (IsOpen n rows))
-    by false t = All-nil (IsOpen n rows)
-
-rest_open : (n k : ℕ) (rows rest : List Row) → drop k rows ≡ rest → All (IsOpen n rows) (flat_map (of_left n) (enumerate_from k rest))
-rest_open n k rows [] e = All-nil (IsOpen n rows)
-rest_open n k rows (row ∷ rest) e =
+-- What holds of each incomplete request holds of all findings about the rest of a table.
+rest_open : (P : Finding → Type 0) (n k : ℕ) (rows rest : List Row) → ((r : ℕ) → option_map_or is_open (slice_get rows r) false ≡ true → P (the_finding n (Left Unfinished) r)) → drop k rows ≡ rest → All P (flat_map (of_left n) (enumerate_from k rest))
+rest_open P n k rows [] h e = All-nil P
+rest_open P n k rows (row ∷ rest) h e =
     let first = row_first rows rest k row e in
     let up : suc k ≡ k + 1 = omega arith in
-    All-append (IsOpen n rows) (of_left n (k, row)) (flat_map (of_left n) (enumerate_from (k + 1) rest)) (given_open n k rows row first.0) (rest_open n (k + 1) rows rest (ap (λ (j : ℕ). drop j rows) (sym up) ∙ first.1))
+    All-append P (of_left n (k, row)) (flat_map (of_left n) (enumerate_from (k + 1) rest))
+    (given_only P (is_open row) (the_finding n (Left Unfinished) k) (λ t. h k (ap (λ (o : Option Row). option_map_or is_open o false) first.0 ∙ t)))
+    (rest_open P n (k + 1) rows rest h (ap (λ (j : ℕ). drop j rows) (sym up) ∙ first.1))
 
 number_there : (k r : ℕ) (rest : List Row) (row : Row) → slice_get rest r ≡ Some row → Has (enumerate_from k rest) (k + r, row)
 number_there k r [] row e = cc
@@ -59,34 +54,22 @@ number_there k (suc r) (x ∷ rest) row e =
     let same : k + 1 + r ≡ k + suc r = omega arith in
     inr (subst (λ (j : ℕ). Has (enumerate_from (k + 1) rest) (j, row)) same (number_there (k + 1) r rest row e))
 
-open_there : (n r : ℕ) (rows : List Row) → option_map_or is_open (slice_get rows r) false ≡ true → Has (all_left n rows) (record { moment = n; kind = Unfinished; subject = r })
+open_there : (n r : ℕ) (rows : List Row) → option_map_or is_open (slice_get rows r) false ≡ true → Has (all_left n rows) (the_finding n (Left Unfinished) r)
 open_there n r rows h = by (slice_get rows r) refl h
   where
-    given_there : (b : Bool) → b ≡ true → Has (given b (record { moment = n; kind = Unfinished; subject = r })) (record { moment = n; kind = Unfinished; subject = r })
-    given_there true e = inl refl
-    given_there false e = cc
-
-    by : (o : Option Row) → slice_get rows r ≡ o → option_map_or is_open o false ≡ true → Has (all_left n rows) (record { moment = n; kind = Unfinished; subject = r })
+    by : (o : Option Row) → slice_get rows r ≡ o → option_map_or is_open o false ≡ true → Has (all_left n rows) (the_finding n (Left Unfinished) r)
     by None e t = cc
     by (Some row) e t =
         let same : zero + r ≡ r = omega arith in
         let there : Has (enumerate_from zero rows) (r, row) = subst (λ (j : ℕ). Has (enumerate_from zero rows) (j, row)) same (number_there zero r rows row e) in
-        has_flat_map (of_left n) (enumerate_from zero rows) (r, row) (record { moment = n; kind = Unfinished; subject = r }) there (given_there (is_open row) t)
-
-open_is_left : (s : Setup) (kind : Kind) (m : Machine) (r : ℕ) → kind ≡ Unfinished → option_map_or is_open (slice_get m.table r) false ≡ true → is_left s kind m r ≡ true
-open_is_left s kind m r e h = subst (λ (k : Kind). is_left s k m r ≡ true) (sym e) h
-
-only_left : (s : Setup) (es : List Event) (fs : List Finding) → All (IsOpen (length es) (machine_at s es (length es)).table) fs → All (IsLeft s es) fs
-only_left s es fs a = λ k d l. let p = a k d l in (p.0, open_is_left s _ (machine_at s es (length es)) _ p.1.0 p.1.1)
+        has_flat_map (of_left n) (enumerate_from zero rows) (r, row) (the_finding n (Left Unfinished) r) there (given_there (is_open row) (the_finding n (Left Unfinished) r) t)
 
 -- ---- files
 
 object_left : (s : Setup) (es : List Event) (o : ℕ) → o < length s.objects → All (IsLeft s es) (of_object (length es) (machine_at s es (length es)).world o)
-object_left s es o l = by (has_unsynced (machine_at s es (length es)).world o) refl
-  where
-    by : (b : Bool) → has_unsynced (machine_at s es (length es)).world o ≡ b → All (IsLeft s es) (given b (record { moment = length es; kind = NotDurable; subject = o }))
-    by true t = All-cons (IsLeft s es) (record { moment = length es; kind = NotDurable; subject = o }) [] (refl, and_from (nat_lt o (length s.objects)) _ (lt-ltb o (length s.objects) l) t) (All-nil (IsLeft s es))
-    by false t = All-nil (IsLeft s es)
+object_left s es o l =
+    given_only (IsLeft s es) (has_unsynced (machine_at s es (length es)).world o) (the_finding (length es) (Left NotDurable) o)
+    (λ t. (refl, and_from (nat_lt o (length s.objects)) _ (lt-ltb o (length s.objects) l) t))
 
 objects_left : (s : Setup) (es : List Event) (k : ℕ) → k ≤ length s.objects → All (IsLeft s es) (flat_map (of_object (length es) (machine_at s es (length es)).world) (numbers_below k))
 objects_left s es zero l = All-nil (IsLeft s es)
@@ -95,44 +78,27 @@ objects_left s es (suc k) l =
     (All-append (IsLeft s es) (flat_map (of_object (length es) (machine_at s es (length es)).world) (numbers_below k)) (of_object (length es) (machine_at s es (length es)).world k ++ []) (objects_left s es k (omega arith))
     (All-append (IsLeft s es) (of_object (length es) (machine_at s es (length es)).world k) [] (object_left s es k (omega arith)) (All-nil (IsLeft s es))))
 
-object_there : (n o : ℕ) (w : WorldState) → has_unsynced w o ≡ true → Has (of_object n w o) (record { moment = n; kind = NotDurable; subject = o })
-object_there n o w h = by (has_unsynced w o) h
-  where
-    by : (b : Bool) → b ≡ true → Has (given b (record { moment = n; kind = NotDurable; subject = o })) (record { moment = n; kind = NotDurable; subject = o })
-    by true e = inl refl
-    by false e = cc
+object_there : (s : Setup) (n o : ℕ) (w : WorldState) → (nat_lt o (length s.objects) && has_unsynced w o) ≡ true → Has (all_unsynced s n w) (the_finding n (Left NotDurable) o)
+object_there s n o w h =
+    let parts = and_parts (nat_lt o (length s.objects)) (has_unsynced w o) h in
+    has_flat_map (of_object n w) (numbers_below (length s.objects)) o (the_finding n (Left NotDurable) o) (below_there o (length s.objects) (ltb-true o (length s.objects) parts.0)) (given_there (has_unsynced w o) (the_finding n (Left NotDurable) o) parts.1)
 
 -- ---- requests and files
 
-false_true : false ≡ true → ⊥
-false_true e = cc
-
--- Something left at the end is a request or a file.
-left_is : (s : Setup) (kind : Kind) (m : Machine) (r : ℕ) → is_left s kind m r ≡ true
-    → ((Unfinished ≡ kind) × (option_map_or is_open (slice_get m.table r) false ≡ true)) ⊎ ((NotDurable ≡ kind) × (r < length s.objects) × (has_unsynced m.world r ≡ true))
-left_is s Unfinished m r h = inl (refl, h)
-left_is s NotDurable m r h = let parts = and_parts (nat_lt r (length s.objects)) (has_unsynced m.world r) h in inr (refl, ltb-true r (length s.objects) parts.0, parts.1)
-left_is s _ m r h = absurd (false_true h)
-
-left_there : (s : Setup) (es : List Event) (f : Finding) → IsLeft s es f → Has (all_left (length es) (machine_at s es (length es)).table ++ all_unsynced s (length es) (machine_at s es (length es)).world) f
-left_there s es f h =
-    elim (left_is s f.kind (machine_at s es (length es)) f.subject h.1) [
-      | inl p ↦ has_left (all_left (length es) (machine_at s es (length es)).table) _ f (given_there Unfinished p.0 _ (open_there (length es) f.subject (machine_at s es (length es)).table p.1))
-      | inr p ↦ has_right (all_left (length es) (machine_at s es (length es)).table) _ f
-          (given_there NotDurable p.0 (all_unsynced s (length es) (machine_at s es (length es)).world)
-          (has_flat_map (of_object (length es) (machine_at s es (length es)).world) (numbers_below (length s.objects)) f.subject _ (below_there f.subject (length s.objects) p.1) (object_there (length es) f.subject (machine_at s es (length es)).world p.2)))
-    ]
+left_there : (s : Setup) (es : List Event) (i : ℕ) (kind : Kind) (n : ℕ) → IsLeftAt s es i kind n → Has (all_left (length es) (machine_at s es (length es)).table ++ all_unsynced s (length es) (machine_at s es (length es)).world) (the_finding i kind n)
+left_there s es i (Left kind) n h = subst (λ (k : ℕ). Has (all_left (length es) (machine_at s es (length es)).table ++ all_unsynced s (length es) (machine_at s es (length es)).world) (the_finding k (Left kind) n)) (sym h.0) (by kind h.1)
   where
-    given_there : (kind : Kind) → kind ≡ f.kind → (fs : List Finding) → Has fs (record { moment = length es; kind = kind; subject = f.subject }) → Has fs f
-    given_there kind e fs has =
-        subst (λ (i : ℕ). Has fs (record { moment = i; kind = f.kind; subject = f.subject })) (sym h.0) (subst (λ (k : Kind). Has fs (record { moment = length es; kind = k; subject = f.subject })) e has)
+    by : (kind : LeftKind) → is_left s kind (machine_at s es (length es)) n ≡ true → Has (all_left (length es) (machine_at s es (length es)).table ++ all_unsynced s (length es) (machine_at s es (length es)).world) (the_finding (length es) (Left kind) n)
+    by Unfinished t = has_left (all_left (length es) (machine_at s es (length es)).table) _ _ (open_there (length es) n (machine_at s es (length es)).table t)
+    by NotDurable t = has_right (all_left (length es) (machine_at s es (length es)).table) _ _ (object_there s (length es) n (machine_at s es (length es)).world t)
+left_there s es i _ n h = absurd h
 
 pub all_at_end : (s : Setup) (es : List Event) (m : Machine) → m ≡ machine_at s es (length es) → AreLeft s es (all_left (length es) m.table ++ all_unsynced s (length es) m.world)
 all_at_end s es m e = subst (λ (x : Machine). AreLeft s es (all_left (length es) x.table ++ all_unsynced s (length es) x.world)) (sym e) (record {
   only =
       All-append (IsLeft s es) (all_left (length es) (machine_at s es (length es)).table) (all_unsynced s (length es) (machine_at s es (length es)).world)
-      (only_left s es _ (rest_open (length es) zero (machine_at s es (length es)).table (machine_at s es (length es)).table refl)) (objects_left s es (length s.objects) (omega arith));
-  whole = λ f h. has_contains _ f (left_there s es f h);
+      (rest_open (IsLeft s es) (length es) zero (machine_at s es (length es)).table (machine_at s es (length es)).table (λ r t. (refl, t)) refl) (objects_left s es (length s.objects) (omega arith));
+  whole = λ f h. has_contains _ f (left_there s es f.moment f.kind f.subject h);
 })
 
 -- ---- one step of the loop

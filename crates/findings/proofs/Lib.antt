@@ -1,4 +1,5 @@
 pub mod Members
+pub mod Groups
 pub mod Notes
 pub mod Shown
 pub mod Candidates
@@ -9,8 +10,6 @@ pub mod Looking
 pub mod Unfinished
 pub mod Waiting
 pub mod Barriers
-pub mod Ranks
-pub mod Distinct
 pub mod Lasting
 pub mod Left
 pub mod Alike

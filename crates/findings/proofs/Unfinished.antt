@@ -11,9 +11,9 @@ use Rattle.links_drains.specs.Numbered.{IsNextWhere, NoneWhere}
 use Rattle.links_drains.specs.Phases.{is_queued, is_issued, is_unfinished}
 use Rattle.links_drains.specs.Units.{is_open}
 use Rattle.links_drains.proofs.Units.{any_false}
-use Rattle.finding_kinds.specs.declared.kind.Kind.{Kind}
-use Rattle.finding_kinds.specs.declared.kind.Kind.TheVariants.{ClosedEarly, ClosedWhileHeld}
-use Rattle.findings.specs.Uses.{is_met}
+use Rattle.findings.specs.declared.uses.Usage.{Usage}
+use Rattle.findings.specs.declared.uses.Usage.TheVariants.{Names, Holds}
+use Rattle.findings.specs.Uses.{is_user}
 use Rattle.findings.proofs.Looking.{passes, NonePasses}
 
 -- No completed request passes the test.
@@ -53,8 +53,7 @@ not_issued Queued e = refl
 not_issued Issued e = cc
 not_issued (Ended res) e = refl
 
--- The tests of a close are passed only by incomplete requests.
-pub met_open : (kind : Kind) (fd : ℕ) → PassOpen (is_met kind fd)
-met_open ClosedEarly fd row e = and_left _ _ (not_queued row.phase e)
-met_open ClosedWhileHeld fd row e = and_left _ _ (not_issued row.phase e)
-met_open _ fd row e = refl
+-- Only an incomplete request uses a descriptor.
+pub user_open : (usage : Usage) (fd : ℕ) → PassOpen (is_user usage fd)
+user_open Names fd row e = and_left _ _ (not_queued row.phase e)
+user_open Holds fd row e = and_left _ _ (not_issued row.phase e)

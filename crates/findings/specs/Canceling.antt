@@ -10,8 +10,8 @@ use Rattle.timeouts_cancel.specs.Matches.{matches_of}
 use Rattle.machine.specs.Cancels.{key_of, takes_all}
 use Rattle.machine.specs.declared.whole.Machine.{Machine}
 use Rattle.findings.specs.declared.canceling.Cancel.{Cancel}
-use Rattle.finding_kinds.specs.declared.kind.Kind.{Kind}
-use Rattle.finding_kinds.specs.declared.kind.Kind.TheVariants.{Several, LeftRunning, NotFound}
+use Rattle.finding_kinds.specs.declared.kind.CancelKind.{CancelKind}
+use Rattle.finding_kinds.specs.declared.kind.CancelKind.TheVariants.{NoneFound, Several, LeftRunning}
 
 -- The request with its number of matches, if it is a cancel or removal.
 abbrev pub cancel_in : List Row → ℕ → Row → Option Cancel
@@ -27,16 +27,14 @@ abbrev pub matches_some : Cancel → List Row → Bool
 matches_some x rows = nat_lt 0 (length (matches_of rows (key_of x.entry) x.number))
 
 -- Whether a completed cancel or removal is a finding, by all requests after the event:
+--   NoneFound: it cancels all that wait (IORING_ASYNC_CANCEL_ALL), and none matched.
 --   Several: it acts on the first match only, and more than one matched: the lowest number.
---   LeftRunning: it cancels all that wait (IORING_ASYNC_CANCEL_ALL), and some still match, since
---     they are running.
---   NotFound: it cancels all that wait, and none matched.
-abbrev pub is_of_cancel : Kind → Cancel → List Row → Bool
+--   LeftRunning: it cancels all that wait, and some still match, since they are running.
+abbrev pub is_of_cancel : CancelKind → Cancel → List Row → Bool
+is_of_cancel NoneFound x rows = takes_all x.entry && (x.matched == 0)
 is_of_cancel Several x rows = not (takes_all x.entry) && nat_lt 1 x.matched
 is_of_cancel LeftRunning x rows = takes_all x.entry && matches_some x rows
-is_of_cancel NotFound x rows = takes_all x.entry && (x.matched == 0)
-is_of_cancel kind x rows = false
 
 -- Whether an event completes cancel or removal n, and that is a finding about it.
-abbrev pub cancel_shows : Kind → Machine → Event → Machine → ℕ → Bool
+abbrev pub cancel_shows : CancelKind → Machine → Event → Machine → ℕ → Bool
 cancel_shows kind before e after n = option_map_or (λ (x : Cancel). (x.number == n) && is_of_cancel kind x after.table) (cancel_before before e) false

@@ -15,11 +15,16 @@ use Rattle.scenario.specs.declared.setup.Setup.{Setup}
 use Rattle.links_drains.specs.Links.{has_flag}
 use Rattle.links_drains.specs.Units.{is_open}
 use Rattle.machine.specs.declared.whole.Machine.{Machine}
+use Rattle.machine.specs.Steps.{number_in}
 use Rattle.machine.specs.Threads.{ThreadState}
-use Rattle.finding_kinds.specs.declared.kind.Kind.{Kind}
-use Rattle.finding_kinds.specs.declared.kind.Kind.TheVariants.{Busy, Waits, LostWakeUp, NotTaken, NotReaped, Unfinished, TakenShort, NoSuchSlot, RefusedFlags, NotDurable}
+use Rattle.finding_kinds.specs.declared.kind.LastingKind.{LastingKind}
+use Rattle.finding_kinds.specs.declared.kind.LastingKind.TheVariants.{Waits, LostWakeUp, NotTaken, NotReaped}
+use Rattle.finding_kinds.specs.declared.kind.LeftKind.{LeftKind}
+use Rattle.finding_kinds.specs.declared.kind.LeftKind.TheVariants.{Unfinished, NotDurable}
+use Rattle.finding_kinds.specs.declared.kind.StepKind.{StepKind}
+use Rattle.finding_kinds.specs.declared.kind.StepKind.TheVariants.{Busy, TakenShort, NoSuchSlot, SlotInUse, ClosedEarly, ClosedWhileHeld, RefusedFlags}
 use Rattle.findings.specs.Endings.{is_error, is_less}
-use Rattle.findings.specs.Uses.{is_of_put, is_of_number}
+use Rattle.findings.specs.Uses.{is_pushed_last, is_named, is_held}
 use Rattle.finding_kinds.specs.Programs.{instruction_at}
 
 -- ---- rings (io_uring_setup(2), io_uring(7))
@@ -66,39 +71,29 @@ abbrev pub is_step_of : ℕ → Event → Bool
 is_step_of n (Step t) = t == n
 is_step_of n e = false
 
--- Whether an enter of to_submit entries, which has returned or waits, is a finding about its thread
--- (io_uring_enter(2)):
---   Busy: it returned EBUSY.
---   TakenShort: it took fewer entries than that and returned no error.
---   RefusedFlags: it returned EINVAL, because of a flag other than IORING_ENTER_GETEVENTS and
---     IORING_ENTER_SQ_WAKEUP.
-abbrev pub is_of_enter : Kind → ℕ → Machine → ℕ → Bool
-is_of_enter Busy to_submit m t = option_map_or (is_error 16) (answer_of m t) false
-is_of_enter TakenShort to_submit m t = option_map_or (λ n. is_less n to_submit) (answer_of m t) false
-is_of_enter RefusedFlags to_submit m t = option_map_or (is_error 22) (answer_of m t) false
-is_of_enter kind to_submit m t = false
-
--- Whether a push of an index is a finding (io_uring(7)):
---   NoSuchSlot: the index names no slot.
-abbrev pub is_of_push : Kind → ℕ → Machine → Bool
-is_of_push NoSuchSlot index m = is_none (slice_get m.submissions.slots index)
-is_of_push kind index m = false
-
 -- Whether the close that the thread has now done succeeded (close(2)).
 abbrev pub has_closed : Machine → ℕ → Bool
 has_closed m t = option_map_or (λ n. int_eq n (pos 0)) (answer_of m t) false
 
--- Whether a close of a descriptor is a finding: only a successful one is.
-abbrev pub is_of_close : Kind → ℤ → Machine → ℕ → Bool
-is_of_close kind fd m t = has_closed m t && is_of_number kind m fd
-
--- Whether a step of thread t is a finding, by its instruction, whether it changed a slot, and the
--- machine after it.
-abbrev pub is_of_step : Kind → Bool → Instruction → Machine → ℕ → Bool
-is_of_step kind changes (Enter to_submit min_complete flags) m t = is_of_enter kind to_submit m t
-is_of_step kind changes (Push index) m t = is_of_push kind index m
-is_of_step kind changes (Put slot entry) m t = is_of_put kind changes slot m
-is_of_step kind changes (Close fd) m t = is_of_close kind fd m t
+-- Whether a step of thread t is a finding about it, by its instruction, whether it changed a slot,
+-- and the machine after it (io_uring_enter(2), io_uring(7), close(2)):
+--   Busy: an enter returned EBUSY.
+--   TakenShort: an enter took fewer entries than it was asked for, and returned no error.
+--   RefusedFlags: an enter returned EINVAL, because of a flag other than IORING_ENTER_GETEVENTS and
+--     IORING_ENTER_SQ_WAKEUP.
+--   NoSuchSlot: the pushed index names no slot.
+--   SlotInUse: a put changes an entry that is among the last 64 pushed and not yet taken.
+--   ClosedEarly: a queued request uses the closed descriptor, or an entry that was pushed and not
+--     yet taken. The close succeeded.
+--   ClosedWhileHeld: an issued request holds the closed descriptor. The close succeeded.
+abbrev pub is_of_step : StepKind → Bool → Instruction → Machine → ℕ → Bool
+is_of_step Busy changes (Enter to_submit min_complete flags) m t = option_map_or (is_error 16) (answer_of m t) false
+is_of_step TakenShort changes (Enter to_submit min_complete flags) m t = option_map_or (λ n. is_less n to_submit) (answer_of m t) false
+is_of_step RefusedFlags changes (Enter to_submit min_complete flags) m t = option_map_or (is_error 22) (answer_of m t) false
+is_of_step NoSuchSlot changes (Push index) m t = is_none (slice_get m.submissions.slots index)
+is_of_step SlotInUse changes (Put slot entry) m t = changes && is_pushed_last m.submissions slot
+is_of_step ClosedEarly changes (Close fd) m t = has_closed m t && option_map_or (is_named m) (number_in fd) false
+is_of_step ClosedWhileHeld changes (Close fd) m t = has_closed m t && option_map_or (is_held m) (number_in fd) false
 is_of_step kind changes x m t = false
 
 -- Whether a thread of the setup waits in its enter.
@@ -113,12 +108,11 @@ waits s m t = nat_lt t (length s.threads) && option_map_or (λ (x : ThreadState)
 --   NotTaken: entries wait, and no poller is asleep.
 --   NotReaped: completions wait in the ring or in the backlog.
 --   Waits: the thread waits in its enter.
-abbrev pub condition_holds : Setup → Kind → Machine → ℕ → Bool
+abbrev pub condition_holds : Setup → LastingKind → Machine → ℕ → Bool
 condition_holds s LostWakeUp m n = (n == 0) && (needs_wake_up m && has_entries m)
 condition_holds s NotTaken m n = (n == 0) && (not (needs_wake_up m) && has_entries m)
 condition_holds s NotReaped m n = (n == 0) && (overflows m || has_completions m)
 condition_holds s Waits m t = waits s m t
-condition_holds s kind m n = false
 
 -- ---- the end
 
@@ -133,10 +127,9 @@ has_unsynced w o = option_map_or is_unsynced (file_of w o) false
 -- Whether a request or an object is a finding at the end:
 --   Unfinished: the request is incomplete.
 --   NotDurable: the object is a file with written bytes that are not durable.
-abbrev pub is_left : Setup → Kind → Machine → ℕ → Bool
+abbrev pub is_left : Setup → LeftKind → Machine → ℕ → Bool
 is_left s Unfinished m r = option_map_or is_open (slice_get m.table r) false
 is_left s NotDurable m o = nat_lt o (length s.objects) && has_unsynced m.world o
-is_left s kind m n = false
 
 -- A condition has held at each moment from `since` to `now`, and not at the moment before `since`.
 pub record Began (holds : ℕ → Bool) (now since : ℕ) : Type 0 where

@@ -29,8 +29,8 @@ use Rattle.machine.specs.Whole.{view}
 use Rattle.machine.specs.declared.whole.Machine.{Machine}
 use Rattle.findings.specs.declared.effect.Effect.{Effect}
 use Rattle.findings.specs.declared.effect.Effect.TheVariants.{Nothing, Stored, Finished}
-use Rattle.finding_kinds.specs.declared.kind.Kind.{Kind}
-use Rattle.finding_kinds.specs.declared.kind.Kind.TheVariants.{BufferInUse, Unordered, SharedPosition, FsyncEarly}
+use Rattle.finding_kinds.specs.declared.kind.ConflictKind.{ConflictKind}
+use Rattle.finding_kinds.specs.declared.kind.ConflictKind.TheVariants.{BufferInUse, Unordered, SharedPosition, FsyncEarly}
 use Rattle.findings.specs.Conditions.{done_by}
 
 -- ---- the effect of an event
@@ -172,30 +172,29 @@ is_synced_early s r done q row = (done.entry.opcode == 3) && (is_good done.phase
 --   SharedPosition: r moved bytes at the position at which q begins, and q asks for at least one.
 --   FsyncEarly: r is an FSYNC of q's file without error, and q is an earlier WRITE of at least one
 --     byte.
-abbrev pub would_conflict : Kind → Setup → Machine → ℕ → Row → ℕ → Row → Bool
+abbrev pub would_conflict : ConflictKind → Setup → Machine → ℕ → Row → ℕ → Row → Bool
 would_conflict BufferInUse s m r done q row = (done.entry.opcode == 22) && is_in_buffer done.entry.addr (moved done.phase) row
 would_conflict Unordered s m r done q row = is_one_write done.entry row.entry && (is_over s m (moved done.phase) done.entry row && is_same_file s done.entry row.entry)
 would_conflict SharedPosition s m r done q row = (nat_lt 0 (moved done.phase) && nat_lt 0 row.entry.len) && is_by_position s done.entry row.entry
 would_conflict FsyncEarly s m r done q row = is_synced_early s r done q row
-would_conflict kind s m r done q row = false
 
 -- Whether a store to memory conflicts with an incomplete READ or WRITE:
 --   BufferInUse: the bytes are in its buffer.
-abbrev pub is_stored_over : Kind → ℕ → ℕ → Row → Bool
+abbrev pub is_stored_over : ConflictKind → ℕ → ℕ → Row → Bool
 is_stored_over BufferInUse address n row = is_in_buffer address n row
 is_stored_over kind address n row = false
 
 -- Whether the effect of an event conflicts with request q, which is not ordered after the request
 -- that completes.
-abbrev pub is_conflict : Kind → Setup → Machine → Effect → ℕ → Row → Bool
+abbrev pub is_conflict : ConflictKind → Setup → Machine → Effect → ℕ → Row → Bool
 is_conflict kind s m Nothing q row = false
 is_conflict kind s m (Stored address n) q row = is_stored_over kind address n row
 is_conflict kind s m (Finished r done) q row = would_conflict kind s m r done q row && not (is_ordered_after m.table q row r done)
 
 -- Whether request q is an incomplete READ or WRITE with which the effect of an event conflicts.
-abbrev pub conflicts : Kind → Setup → Machine → Effect → ℕ → Row → Bool
+abbrev pub conflicts : ConflictKind → Setup → Machine → Effect → ℕ → Row → Bool
 conflicts kind s m effect q row = is_candidate row && is_conflict kind s m effect q row
 
 -- Whether an event that leads from one machine to another is a finding about request q.
-abbrev pub clashes : Setup → Kind → Machine → Event → Machine → ℕ → Bool
+abbrev pub clashes : Setup → ConflictKind → Machine → Event → Machine → ℕ → Bool
 clashes s kind before e after q = option_map_or (conflicts kind s after (done_at s before e after) q) (slice_get after.table q) false

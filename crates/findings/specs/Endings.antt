@@ -12,8 +12,10 @@ use Rattle.links_drains.specs.Phases.{is_ended, is_issued}
 use Rattle.links_drains.specs.Units.{is_open}
 use Rattle.timeouts_cancel.specs.Cascades.{is_bad, is_negative, is_transfer}
 use Rattle.finding_kinds.specs.Chains.{distance_to_next}
-use Rattle.finding_kinds.specs.declared.kind.Kind.{Kind}
-use Rattle.finding_kinds.specs.declared.kind.Kind.TheVariants.{Failed, Short, Severed, Canceled, TimedOut, Expired, NotFound, TooLate, WentOn, CutOff, NoEffect, SameUserData}
+use Rattle.finding_kinds.specs.declared.kind.EndedKind.{EndedKind}
+use Rattle.finding_kinds.specs.declared.kind.EndedKind.TheVariants.{Failed, Short, Severed, Canceled, TimedOut, Expired, NotFound, TooLate, WentOn}
+use Rattle.finding_kinds.specs.declared.kind.QueuedKind.{QueuedKind}
+use Rattle.finding_kinds.specs.declared.kind.QueuedKind.TheVariants.{CutOff, NoEffect, SameUserData}
 
 -- ---- completions
 
@@ -79,7 +81,7 @@ leaves_chain before row res = has_flag row.entry.flags 8 && (is_bad row res && (
 --   NotFound, TooLate: a cancel or removal completed with ENOENT or with EALREADY.
 --   WentOn: a hard-linked request failed or was short, and its chain has another member besides a
 --     linked timeout.
-abbrev pub is_of : Kind → Option Row → Row → Option Row → ℤ → Bool
+abbrev pub is_of : EndedKind → Option Row → Row → Option Row → ℤ → Bool
 is_of Failed before row next res = is_negative res && not (is_reported_apart row res)
 is_of Short before row next res = is_transfer row.entry.opcode && is_less res row.entry.len
 is_of Severed before row next res = is_soft_linked row && (is_bad row res && (was_issued before || not (is_error 125 res)))
@@ -89,7 +91,6 @@ is_of Expired before row next res = (row.entry.opcode == 11) && is_error 62 res
 is_of NotFound before row next res = is_cancel row.entry.opcode && is_error 2 res
 is_of TooLate before row next res = is_cancel row.entry.opcode && is_error 114 res
 is_of WentOn before row next res = leaves_chain before row res && has_next row next
-is_of _ before row next res = false
 
 -- ---- submissions
 
@@ -111,13 +112,18 @@ has_twin rows r row = not (row.entry.user_data == 0) && any_numbered (is_twin r 
 --   NoEffect: a field of its entry has no effect.
 --   SameUserData: one of the 32 requests before it is incomplete and has its user_data, so that
 --     their completions can't be told apart.
-abbrev pub comes_as : Kind → List Row → ℕ → Row → Bool
+abbrev pub comes_as : QueuedKind → List Row → ℕ → Row → Bool
 comes_as CutOff rows r row = is_linked row.entry && is_none (slice_get rows (r + 1))
 comes_as NoEffect rows r row = has_idle_field row.entry
 comes_as SameUserData rows r row = has_twin rows r row
-comes_as kind rows r row = false
 
--- Whether an event completes or submits request r, and that is a finding. `before` is the request
--- before the event, and `rows` are all requests after it.
-abbrev pub row_test : Kind → Option Row → List Row → ℕ → Row → Bool
-row_test kind before rows r row = option_map_or (is_of kind before row (next_in rows r)) (ending_of before row) false || (is_none before && comes_as kind rows r row)
+-- ---- tests of a request
+
+-- Whether an event completes request r, and that is a finding. `before` is the request before the
+-- event, and `rows` are all requests after it.
+abbrev pub ended_test : EndedKind → Option Row → List Row → ℕ → Row → Bool
+ended_test kind before rows r row = option_map_or (is_of kind before row (next_in rows r)) (ending_of before row) false
+
+-- Whether an event submits request r, and that is a finding.
+abbrev pub queued_test : QueuedKind → Option Row → List Row → ℕ → Row → Bool
+queued_test kind before rows r row = is_none before && comes_as kind rows r row

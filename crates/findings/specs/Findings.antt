@@ -1,17 +1,22 @@
 -- The findings of a run, by the machines before and after each event.
-use Rattle.std.specs.Prelude.{◌≡◌, ℕ, ◌+◌, ◌≤◌, ◌==◌, Bool, true, false, not, ◌&&◌, ◌||◌, ◌⊎◌, length, List, [], ◌∷◌, slice_get}
+use Rattle.std.specs.Prelude.{◌≡◌, ℕ, ◌==◌, Bool, true, false, not, ◌&&◌, ◌⊎◌, length, List, slice_get}
 use Rattle.std.specs.Option.{option_map_or}
 use Rattle.std.specs.List.{All, Contains}
+use Rattle.std.specs.List.Sorted.{IsStrictlySortedBy}
 use Rattle.scenario.specs.declared.event.Event.{Event}
 use Rattle.scenario.specs.declared.setup.Setup.{Setup}
 use Rattle.machine.specs.declared.whole.Machine.{Machine}
 use Rattle.machine.specs.Steps.{after}
 use Rattle.machine.specs.Runs.{moment as machine_at}
 use Rattle.finding_kinds.specs.declared.kind.Kind.{Kind}
-use Rattle.finding_kinds.specs.declared.kind.Kind.TheVariants.{Overflow}
+use Rattle.finding_kinds.specs.declared.kind.Kind.TheVariants.{Ended, Overflow, Lasting, Left, Conflict, Step, Queued, Cancel}
+use Rattle.finding_kinds.specs.declared.kind.EndedKind.{EndedKind}
+use Rattle.finding_kinds.specs.declared.kind.LastingKind.{LastingKind}
+use Rattle.finding_kinds.specs.declared.kind.QueuedKind.{QueuedKind}
+use Rattle.finding_kinds.specs.declared.kind.StepKind.{StepKind}
 use Rattle.finding_kinds.specs.declared.finding.Finding.{Finding}
-use Rattle.finding_kinds.specs.Kinds.{rank}
-use Rattle.findings.specs.Endings.{row_test}
+use Rattle.finding_kinds.specs.Orders.{order_of}
+use Rattle.findings.specs.Endings.{ended_test, queued_test}
 use Rattle.findings.specs.Conditions.{overflows, done_by, is_of_step, is_step_of, condition_holds, is_left, Began}
 use Rattle.findings.specs.Conflicts.{clashes}
 use Rattle.findings.specs.Canceling.{cancel_shows}
@@ -19,55 +24,75 @@ use Rattle.findings.specs.Uses.{changes_slot}
 
 -- ---- order
 
--- Findings with strictly increasing ranks, the first at least `least`.
-abbrev pub Rises : ℕ → List Finding → Type 0
-Rises least [] = Unit {0}
-Rises least (f ∷ fs) = (least ≤ rank f) × Rises (rank f + 1) fs
+-- Each finding is less than all later ones.
+abbrev pub Rises : List Finding → Type 0
+Rises fs = IsStrictlySortedBy order_of fs
 
 -- ---- events
 
--- Whether an event completes or submits request r, and that is a finding.
-abbrev pub ends : Kind → Machine → Machine → ℕ → Bool
-ends kind before next_state r = option_map_or (row_test kind (slice_get before.table r) next_state.table r) (slice_get next_state.table r) false
+-- Whether an event completes request r, and that is a finding.
+abbrev pub ends : EndedKind → Machine → Machine → ℕ → Bool
+ends kind before next_state r = option_map_or (ended_test kind (slice_get before.table r) next_state.table r) (slice_get next_state.table r) false
 
--- Whether an event is a finding about the rings, whose subject is 0:
---   Overflow: completions went to the backlog, which was empty before.
-abbrev pub ring_shows : Kind → Machine → Machine → ℕ → Bool
-ring_shows Overflow before next_state n = (n == 0) && (not (overflows before) && overflows next_state)
-ring_shows kind before next_state n = false
+-- Whether an event submits request r, and that is a finding.
+abbrev pub comes : QueuedKind → Machine → Machine → ℕ → Bool
+comes kind before next_state r = option_map_or (queued_test kind (slice_get before.table r) next_state.table r) (slice_get next_state.table r) false
+
+-- Whether completions went to the backlog, which was empty before. The subject is 0.
+abbrev pub spills : Machine → Machine → ℕ → Bool
+spills before next_state n = (n == 0) && (not (overflows before) && overflows next_state)
 
 -- Whether an event is a step of thread t and a finding about it.
-abbrev pub step_shows : Setup → Kind → Machine → Event → Machine → ℕ → Bool
+abbrev pub step_shows : Setup → StepKind → Machine → Event → Machine → ℕ → Bool
 step_shows s kind before e next_state t = is_step_of t e && option_map_or (λ x. is_of_step kind (changes_slot before x) x next_state t) (done_by s before e) false
-
--- Whether an event is a finding about the rings, a thread, or a cancel or removal.
-abbrev pub shows : Setup → Kind → Machine → Event → Machine → ℕ → Bool
-shows s kind before e next_state n = ring_shows kind before next_state n || (step_shows s kind before e next_state n || cancel_shows kind before e next_state n)
 
 -- Whether an event that leads from one machine to another is a finding about subject n.
 abbrev pub occurs : Setup → Kind → Machine → Event → Machine → ℕ → Bool
-occurs s kind before e next_state n = (ends kind before next_state n || shows s kind before e next_state n) || clashes s kind before e next_state n
+occurs s (Ended kind) before e next_state n = ends kind before next_state n
+occurs s (Queued kind) before e next_state n = comes kind before next_state n
+occurs s Overflow before e next_state n = spills before next_state n
+occurs s (Step kind) before e next_state n = step_shows s kind before e next_state n
+occurs s (Cancel kind) before e next_state n = cancel_shows kind before e next_state n
+occurs s (Conflict kind) before e next_state n = clashes s kind before e next_state n
+occurs s (Lasting kind) before e next_state n = false
+occurs s (Left kind) before e next_state n = false
 
 -- Whether event i of a run is a finding about subject n.
 abbrev pub occurs_at : Setup → List Event → ℕ → Kind → ℕ → Bool
 occurs_at s es i kind n =
     option_map_or (λ e. occurs s kind (machine_at s es i) e (after (machine_at s es i) e) n) (slice_get es i) false
 
+-- ---- the end
+
 -- Whether a condition holds at moment i of a run.
-abbrev pub condition_holds_at : Setup → List Event → Kind → ℕ → ℕ → Bool
+abbrev pub condition_holds_at : Setup → List Event → LastingKind → ℕ → ℕ → Bool
 condition_holds_at s es kind n i = condition_holds s kind (machine_at s es i) n
 
+-- A condition about subject n that lasts to the end, at the moment since when it holds.
+abbrev pub LastsSince : Setup → List Event → ℕ → Kind → ℕ → Type 0
+LastsSince s es i (Lasting kind) n = Began (condition_holds_at s es kind n) (length es) i
+LastsSince s es i kind n = ⊥
+
 -- A request that is incomplete at the end, or a file that isn't durable then.
+abbrev pub IsLeftAt : Setup → List Event → ℕ → Kind → ℕ → Type 0
+IsLeftAt s es i (Left kind) n = (i ≡ length es) × (is_left s kind (machine_at s es (length es)) n ≡ true)
+IsLeftAt s es i kind n = ⊥
+
+abbrev pub Lasts : Setup → List Event → Finding → Type 0
+Lasts s es f = LastsSince s es f.moment f.kind f.subject
+
 abbrev pub IsLeft : Setup → List Event → Finding → Type 0
-IsLeft s es f = (f.moment ≡ length es) × (is_left s f.kind (machine_at s es (length es)) f.subject ≡ true)
+IsLeft s es f = IsLeftAt s es f.moment f.kind f.subject
+
+-- ---- all findings
 
 -- A finding of a run is one of three: an event, at the moment before it; a condition that lasts to
 -- the end, at the moment since when it holds; or something left at the end.
 abbrev pub IsFinding : Setup → List Event → Finding → Type 0
-IsFinding s es f = (occurs_at s es f.moment f.kind f.subject ≡ true) ⊎ (Began (condition_holds_at s es f.kind f.subject) (length es) f.moment ⊎ IsLeft s es f)
+IsFinding s es f = (occurs_at s es f.moment f.kind f.subject ≡ true) ⊎ (Lasts s es f ⊎ IsLeft s es f)
 
 -- Exactly the findings of a run: nothing else, nothing left out, each once, in order.
 pub record IsReportOf (s : Setup) (es : List Event) (fs : List Finding) : Type 0 where
   pub only : All (IsFinding s es) fs
   pub whole : (f : Finding) → IsFinding s es f → Contains fs f
-  pub order : Rises 0 fs
+  pub order : Rises fs

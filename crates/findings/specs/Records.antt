@@ -1,5 +1,5 @@
 -- The findings of an event as the search computes them, from the undo record of the event.
-use Rattle.std.specs.Prelude.{◌≡◌, ℕ, ◌+◌, ◌^◌, ◌<◌, ◌==◌, nat_le, Bool, true, false, not, ◌&&◌, ◌++◌, if◌then◌else◌, Option, Some, None, List, [], ◌∷◌, length, slice_get}
+use Rattle.std.specs.Prelude.{◌≡◌, ℕ, ◌<◌, ◌==◌, Bool, true, false, not, ◌&&◌, ◌++◌, if◌then◌else◌, Option, Some, None, List, [], ◌∷◌, length, slice_get}
 use Rattle.std.specs.Option.{option_map_or}
 use Rattle.std.specs.List.{All, filter, flat_map, enumerate_from, Contains}
 use Rattle.links_drains.specs.Units.{is_open}
@@ -18,18 +18,28 @@ use Rattle.scenario.specs.declared.setup.Setup.{Setup}
 use Rattle.machine.specs.declared.whole.Machine.{Machine}
 use Rattle.machine.specs.Whole.{view}
 use Rattle.finding_kinds.specs.declared.kind.Kind.{Kind}
-use Rattle.finding_kinds.specs.declared.kind.Kind.TheVariants.{Failed, Short, Severed, Canceled, TimedOut, Expired, NotFound, TooLate, Overflow, Busy, Unfinished, BufferInUse, Unordered, SharedPosition, FsyncEarly, TakenShort, NoSuchSlot, CutOff, WentOn, NoEffect, SlotInUse, ClosedEarly, ClosedWhileHeld, Several, LeftRunning, SameUserData, NotDurable, RefusedFlags}
+use Rattle.finding_kinds.specs.declared.kind.Kind.TheVariants as group
+use Rattle.finding_kinds.specs.declared.kind.EndedKind.{EndedKind}
+use Rattle.finding_kinds.specs.declared.kind.LeftKind.TheVariants.{Unfinished, NotDurable}
+use Rattle.finding_kinds.specs.declared.kind.ConflictKind.{ConflictKind}
+use Rattle.finding_kinds.specs.declared.kind.StepKind.{StepKind}
+use Rattle.finding_kinds.specs.declared.kind.QueuedKind.{QueuedKind}
+use Rattle.finding_kinds.specs.declared.kind.CancelKind.{CancelKind}
+use Rattle.finding_kinds.specs.declared.kind.TheConstants.EndedKind.{ALL as ended_kinds}
+use Rattle.finding_kinds.specs.declared.kind.TheConstants.ConflictKind.{ALL as conflict_kinds}
+use Rattle.finding_kinds.specs.declared.kind.TheConstants.StepKind.{ALL as step_kinds}
+use Rattle.finding_kinds.specs.declared.kind.TheConstants.QueuedKind.{ALL as queued_kinds}
+use Rattle.finding_kinds.specs.declared.kind.TheConstants.CancelKind.{ALL as cancel_kinds}
 use Rattle.findings.specs.declared.canceling.Cancel.{Cancel}
 use Rattle.findings.specs.declared.effect.Effect.{Effect}
 use Rattle.findings.specs.declared.effect.Effect.TheVariants.{Nothing}
 use Rattle.finding_kinds.specs.declared.finding.Finding.{Finding}
-use Rattle.findings.specs.Endings.{row_test}
+use Rattle.findings.specs.Endings.{ended_test, queued_test}
 use Rattle.findings.specs.Canceling.{cancel_before, is_of_cancel}
-use Rattle.findings.specs.Conditions.{overflows, done_by, is_of_step, has_unsynced, Began}
+use Rattle.findings.specs.Conditions.{overflows, done_by, is_of_step, has_unsynced}
 use Rattle.findings.specs.Conflicts.{done_at, is_candidate, conflicts}
 use Rattle.findings.specs.Uses.{changes_at}
-use Rattle.findings.specs.Findings.{occurs_at, condition_holds_at, IsLeft, IsFinding}
-use Rattle.finding_kinds.specs.Kinds.{rank}
+use Rattle.findings.specs.Findings.{occurs_at, Lasts, IsLeft, IsFinding}
 use Rattle.findings.specs.Watched.{numbers_below}
 
 -- ---- one record
@@ -38,13 +48,21 @@ use Rattle.findings.specs.Watched.{numbers_below}
 abbrev pub given : Bool → Finding → List Finding
 given test f = if test then f ∷ [] else []
 
--- The kinds that are about requests which an event submits or completes.
-abbrev pub row_kinds : List Kind
-row_kinds = Failed ∷ Short ∷ Severed ∷ Canceled ∷ TimedOut ∷ Expired ∷ NotFound ∷ TooLate ∷ CutOff ∷ WentOn ∷ NoEffect ∷ SameUserData ∷ []
+-- The findings about one subject of those kinds of a group that pass a test.
+abbrev pub of_group : {K : Type 0} → (K → Kind) → (K → Bool) → ℕ → ℕ → List K → List Finding
+of_group whole test i n kinds = flat_map (λ kind. given (test kind) (record { moment = i; kind = whole kind; subject = n })) kinds
 
--- The findings of some kinds about request r.
-abbrev pub of_row : ℕ → Option Row → List Row → ℕ → Row → List Kind → List Finding
-of_row i before rows r row kinds = flat_map (λ (kind : Kind). given (row_test kind before rows r row) (record { moment = i; kind = kind; subject = r })) kinds
+-- The findings about the completion of request r.
+abbrev pub of_ended : ℕ → Option Row → List Row → ℕ → Row → List Finding
+of_ended i before rows r row = of_group group.Ended (λ (kind : EndedKind). ended_test kind before rows r row) i r ended_kinds
+
+-- The findings about the submission of request r.
+abbrev pub of_queued : ℕ → Option Row → List Row → ℕ → Row → List Finding
+of_queued i before rows r row = of_group group.Queued (λ (kind : QueuedKind). queued_test kind before rows r row) i r queued_kinds
+
+-- All findings about request r.
+abbrev pub of_row : ℕ → Option Row → List Row → ℕ → Row → List Finding
+of_row i before rows r row = of_ended i before rows r row ++ of_queued i before rows r row
 
 -- The request that a value is, if it is one.
 abbrev pub row_in : Option Value → Option Row
@@ -53,7 +71,7 @@ row_in _ = None
 
 -- The findings about a recorded place, if it is a request.
 abbrev pub of_place : ℕ → List Row → Option Value → Place → List Finding
-of_place i rows before (Request r) = option_map_or (λ (row : Row). of_row i (row_in before) rows r row row_kinds) (slice_get rows r) []
+of_place i rows before (Request r) = option_map_or (of_row i (row_in before) rows r) (slice_get rows r) []
 of_place i rows before _ = []
 
 -- The findings about one change of a record.
@@ -74,34 +92,25 @@ OfNoRow (c ∷ cs) = (is_row c.place ≡ false) × OfNoRow cs
 
 -- Completions went to the backlog, which was empty before.
 abbrev pub of_overflow : ℕ → Bool → Bool → List Finding
-of_overflow i before after = given (not before && after) (record { moment = i; kind = Overflow; subject = 0 })
+of_overflow i before after = given (not before && after) (record { moment = i; kind = group.Overflow; subject = 0 })
 
--- The kinds that are about steps of threads.
-abbrev pub step_kinds : List Kind
-step_kinds = Busy ∷ TakenShort ∷ NoSuchSlot ∷ SlotInUse ∷ ClosedEarly ∷ ClosedWhileHeld ∷ RefusedFlags ∷ []
-
--- The findings of some kinds about an instruction that thread t did. `changes` says whether it
--- changed a slot.
-abbrev pub of_instruction : ℕ → Bool → Instruction → Machine → ℕ → List Kind → List Finding
-of_instruction i changes x after t kinds = flat_map (λ (kind : Kind). given (is_of_step kind changes x after t) (record { moment = i; kind = kind; subject = t })) kinds
+-- The findings about an instruction that thread t did. `changes` says whether it changed a slot.
+abbrev pub of_instruction : ℕ → Bool → Instruction → Machine → ℕ → List Finding
+of_instruction i changes x after t = of_group group.Step (λ (kind : StepKind). is_of_step kind changes x after t) i t step_kinds
 
 -- The findings about a step of a thread; none for any other event.
 abbrev pub of_step : ℕ → Bool → Option Instruction → Event → Machine → List Finding
-of_step i changes (Some x) (Step t) after = of_instruction i changes x after t step_kinds
+of_step i changes (Some x) (Step t) after = of_instruction i changes x after t
 of_step i changes x e after = []
 
--- The kinds that are about the matches of a cancel or removal.
-abbrev pub cancel_kinds : List Kind
-cancel_kinds = Several ∷ LeftRunning ∷ NotFound ∷ []
-
--- The findings of some kinds about a completed cancel or removal.
-abbrev pub of_kinds : ℕ → Cancel → List Row → List Kind → List Finding
-of_kinds i x rows kinds = flat_map (λ (kind : Kind). given (is_of_cancel kind x rows) (record { moment = i; kind = kind; subject = x.number })) kinds
+-- The findings about a completed cancel or removal.
+abbrev pub of_canceling : ℕ → Cancel → List Row → List Finding
+of_canceling i x rows = of_group group.Cancel (λ (kind : CancelKind). is_of_cancel kind x rows) i x.number cancel_kinds
 
 -- The findings about the cancel or removal that an event completes, if it completes one.
 abbrev pub of_cancel : ℕ → Option Cancel → List Row → List Finding
 of_cancel i None rows = []
-of_cancel i (Some x) rows = of_kinds i x rows cancel_kinds
+of_cancel i (Some x) rows = of_canceling i x rows
 
 -- The findings of an event about the rings, the threads, and a cancel or removal.
 abbrev pub of_event : Setup → ℕ → Machine → Event → Machine → List Finding
@@ -109,17 +118,13 @@ of_event s i before e after = of_overflow i (overflows before) (overflows after)
 
 -- ---- conflicts
 
--- The kinds that are about conflicts with an incomplete READ or WRITE.
-abbrev pub conflict_kinds : List Kind
-conflict_kinds = BufferInUse ∷ Unordered ∷ SharedPosition ∷ FsyncEarly ∷ []
+-- The conflicts with request q, whose row is given.
+abbrev pub of_candidate : ℕ → Setup → Machine → Effect → ℕ → Row → List Finding
+of_candidate i s m effect q row = of_group group.Conflict (λ (kind : ConflictKind). conflicts kind s m effect q row) i q conflict_kinds
 
--- The conflicts of some kinds with request q.
-abbrev pub of_candidate : ℕ → Setup → Machine → Effect → ℕ → Row → List Kind → List Finding
-of_candidate i s m effect q row kinds = flat_map (λ (kind : Kind). given (conflicts kind s m effect q row) (record { moment = i; kind = kind; subject = q })) kinds
-
--- All conflicts with request q.
+-- The conflicts with request q.
 abbrev pub of_number : ℕ → Setup → Machine → Effect → ℕ → List Finding
-of_number i s m effect q = option_map_or (λ (row : Row). of_candidate i s m effect q row conflict_kinds) (slice_get m.table q) []
+of_number i s m effect q = option_map_or (of_candidate i s m effect q) (slice_get m.table q) []
 
 -- The conflicts of an event with the requests of some numbers.
 abbrev pub of_effect : ℕ → Setup → Machine → Effect → List ℕ → List Finding
@@ -172,12 +177,12 @@ pub record FoundBefore (s : Setup) (es : List Event) (n : ℕ) (fs : List Findin
 
 -- Exactly the conditions that last to the end.
 pub record IsLasting (s : Setup) (es : List Event) (fs : List Finding) : Type 0 where
-  pub only : All (λ f. Began (condition_holds_at s es f.kind f.subject) (length es) f.moment) fs
-  pub whole : (f : Finding) → Began (condition_holds_at s es f.kind f.subject) (length es) f.moment → Contains fs f
+  pub only : All (Lasts s es) fs
+  pub whole : (f : Finding) → Lasts s es f → Contains fs f
 
 -- A finding if the numbered request is incomplete at the end.
 abbrev pub of_left : ℕ → ℕ × Row → List Finding
-of_left n p = given (is_open p.1) (record { moment = n; kind = Unfinished; subject = p.0 })
+of_left n p = given (is_open p.1) (record { moment = n; kind = group.Left Unfinished; subject = p.0 })
 
 -- The findings about all incomplete requests.
 abbrev pub all_left : ℕ → List Row → List Finding
@@ -185,7 +190,7 @@ all_left n rows = flat_map (of_left n) (enumerate_from 0 rows)
 
 -- A finding if the object is a file that isn't durable at the end.
 abbrev pub of_object : ℕ → WorldState → ℕ → List Finding
-of_object n w o = given (has_unsynced w o) (record { moment = n; kind = NotDurable; subject = o })
+of_object n w o = given (has_unsynced w o) (record { moment = n; kind = group.Left NotDurable; subject = o })
 
 -- The findings about all files that aren't durable.
 abbrev pub all_unsynced : Setup → ℕ → WorldState → List Finding
@@ -200,17 +205,6 @@ pub record AreLeft (s : Setup) (es : List Event) (fs : List Finding) : Type 0 wh
 pub record IsAll (s : Setup) (es : List Event) (fs : List Finding) : Type 0 where
   pub only : All (IsFinding s es) fs
   pub whole : (f : Finding) → IsFinding s es f → Contains fs f
-
--- ---- orders
-
--- The moment and the subject fit into 32 bits.
-abbrev pub IsSmall : Finding → Type 0
-IsSmall f = (f.moment < 2 ^ 32) × (f.subject < 2 ^ 32)
-
--- Of sorted findings, the first of each rank, from rank `least` on.
-abbrev pub distinct_from : ℕ → List Finding → List Finding
-distinct_from least [] = []
-distinct_from least (f ∷ fs) = if nat_le least (rank f) then f ∷ distinct_from (rank f + 1) fs else distinct_from least fs
 
 -- Two lists have the same findings as members.
 pub record SameFindings (fs gs : List Finding) : Type 0 where

@@ -16,10 +16,10 @@ use Rattle.links_drains.specs.Phases.{is_queued, is_issued}
 use Rattle.machine.specs.Steps.{number_in}
 use Rattle.machine.specs.Whole.{view}
 use Rattle.machine.specs.declared.whole.Machine.{Machine}
-use Rattle.finding_kinds.specs.declared.kind.Kind.{Kind}
-use Rattle.finding_kinds.specs.declared.kind.Kind.TheVariants.{SlotInUse, ClosedEarly, ClosedWhileHeld}
 use Rattle.findings.specs.declared.uses.Sought.{Sought}
 use Rattle.findings.specs.declared.uses.Sought.TheVariants.{Named, Naming}
+use Rattle.findings.specs.declared.uses.Usage.{Usage}
+use Rattle.findings.specs.declared.uses.Usage.TheVariants.{Names, Holds}
 
 -- ---- slots
 
@@ -53,29 +53,21 @@ is_pushed w sought = list_any (is_sought w.slots sought) (sub_list w)
 abbrev pub pushed_last : SubWords → List ℕ
 pushed_last w = drop (length (sub_list w) - 64) (sub_list w)
 
--- ---- kinds
+-- Whether a slot is among them.
+abbrev pub is_pushed_last : SubWords → ℕ → Bool
+is_pushed_last w slot = list_any (is_sought w.slots (Named slot)) (pushed_last w)
 
--- Whether a put into a slot is a finding (io_uring(7)). `changes` says whether it changes the
--- entry:
---   SlotInUse: it changes an entry that is among the last 64 pushed and not yet taken.
-abbrev pub is_of_put : Kind → Bool → ℕ → Machine → Bool
-is_of_put SlotInUse changes slot m = changes && list_any (is_sought m.submissions.slots (Named slot)) (pushed_last m.submissions)
-is_of_put kind changes slot m = false
+-- ---- closed descriptors (close(2), io_uring_enter(2))
 
--- Whether a request is one that a close of the descriptor is a finding about.
-abbrev pub is_met : Kind → ℕ → Row → Bool
-is_met ClosedEarly fd row = is_queued row.phase && names_descriptor fd row.entry
-is_met ClosedWhileHeld fd row = is_issued row.phase && is_number row.held fd
-is_met kind fd row = false
+-- Whether a request uses descriptor fd: it is queued and names it, or it is issued and holds it.
+abbrev pub is_user : Usage → ℕ → Row → Bool
+is_user Names fd row = is_queued row.phase && names_descriptor fd row.entry
+is_user Holds fd row = is_issued row.phase && is_number row.held fd
 
--- Whether a successful close of a descriptor is a finding (close(2), io_uring_enter(2)):
---   ClosedEarly: a queued request uses it, or an entry that was pushed and not yet taken.
---   ClosedWhileHeld: an issued request holds it.
-abbrev pub is_of_closed : Kind → Machine → ℕ → Bool
-is_of_closed ClosedEarly m fd = list_any (is_met ClosedEarly fd) m.table || is_pushed m.submissions (Naming fd)
-is_of_closed ClosedWhileHeld m fd = list_any (is_met ClosedWhileHeld fd) m.table
-is_of_closed kind m fd = false
+-- Whether a queued request names the descriptor, or an entry that was pushed and not yet taken.
+abbrev pub is_named : Machine → ℕ → Bool
+is_named m fd = list_any (is_user Names fd) m.table || is_pushed m.submissions (Naming fd)
 
--- The same for the fd of a close instruction, which may be negative.
-abbrev pub is_of_number : Kind → Machine → ℤ → Bool
-is_of_number kind m fd = option_map_or (is_of_closed kind m) (number_in fd) false
+-- Whether an issued request holds it.
+abbrev pub is_held : Machine → ℕ → Bool
+is_held m fd = list_any (is_user Holds fd) m.table

@@ -3,8 +3,9 @@ use Rattle.std.specs.Prelude.{ℕ, zero, suc, Bool, true, false, Option, Some, N
 use Rattle.scenario.specs.declared.setup.Setup.{Setup}
 use Rattle.machine.specs.declared.whole.Machine.{Machine}
 use Rattle.finding_kinds.specs.declared.finding.Finding.{Finding}
-use Rattle.finding_kinds.specs.declared.kind.Kind.{Kind}
-use Rattle.finding_kinds.specs.declared.kind.Kind.TheVariants.{Waits, LostWakeUp, NotTaken, NotReaped}
+use Rattle.finding_kinds.specs.declared.kind.Kind.TheVariants.{Lasting}
+use Rattle.finding_kinds.specs.declared.kind.LastingKind.{LastingKind}
+use Rattle.finding_kinds.specs.declared.kind.LastingKind.TheVariants.{Waits, LostWakeUp, NotTaken, NotReaped}
 use Rattle.findings.specs.declared.watching.Watch.{Watch}
 use Rattle.findings.specs.Conditions.{condition_holds}
 
@@ -19,7 +20,7 @@ abbrev pub advanced : Setup → Machine → ℕ → Watch → Watch
 advanced s m moment w = record w { since = continued (condition_holds s w.kind m w.subject) w.since moment }
 
 -- A condition that has not held so far.
-abbrev pub fresh : Kind → ℕ → Watch
+abbrev pub fresh : LastingKind → ℕ → Watch
 fresh kind n = record { kind = kind; subject = n; since = None }
 
 -- The numbers below n, ascending.
@@ -36,9 +37,9 @@ abbrev pub watched : Setup → List Watch
 watched s = of_rings ++ map (fresh Waits) (numbers_below (length s.threads))
 
 -- A finding if the condition holds.
-abbrev pub of_watch : Kind → ℕ → Option ℕ → List Finding
+abbrev pub of_watch : LastingKind → ℕ → Option ℕ → List Finding
 of_watch kind n None = []
-of_watch kind n (Some i) = record { moment = i; kind = kind; subject = n } ∷ []
+of_watch kind n (Some i) = record { moment = i; kind = Lasting kind; subject = n } ∷ []
 
 -- The finding of a watched condition, if it holds.
 abbrev pub of_lasting : Watch → List Finding

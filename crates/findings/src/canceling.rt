@@ -5,7 +5,7 @@ ghost use Rattle.findings.specs.Canceling.{cancel_in, cancel_before, matches_som
 
 use crate::leftover::row_at;
 use entries::{Row, Sqe};
-use finding_kinds::Kind;
+use finding_kinds::CancelKind;
 use machine::{Event, State, takes_all};
 use opcodes::is_cancel;
 
@@ -53,13 +53,12 @@ fn matches_some(cancel: &Cancel, state: &State) -> bool
 }
 
 /// Returns whether a completed cancel or removal is a finding of this kind, by the state after it.
-pub(crate) fn is_of_cancel(kind: Kind, cancel: &Cancel, state: &State) -> bool
+pub(crate) fn is_of_cancel(kind: CancelKind, cancel: &Cancel, state: &State) -> bool
     ensures { result ≡ is_of_cancel kind cancel.now state.now.table }
 {
     match kind {
-        Kind::Several => !takes_all(&cancel.entry) && cancel.matched > 1,
-        Kind::LeftRunning => takes_all(&cancel.entry) && matches_some(cancel, state),
-        Kind::NotFound => takes_all(&cancel.entry) && cancel.matched == 0,
-        _ => false,
+        CancelKind::NoneFound => takes_all(&cancel.entry) && cancel.matched == 0,
+        CancelKind::Several => !takes_all(&cancel.entry) && cancel.matched > 1,
+        CancelKind::LeftRunning => takes_all(&cancel.entry) && matches_some(cancel, state),
     }
 }

@@ -10,7 +10,7 @@ use crate::conflicts::is_candidate;
 use crate::following::{follow, is_candidate_in};
 use crate::leftover::row_at;
 use crate::noting::note_row;
-use crate::record::{add_of_any_kind, row_in};
+use crate::record::{add_of_row, row_in};
 use crate::transition::Transition;
 use finding_kinds::{Finding, Times};
 use places::{Change, Changes, Place, Record, Stretches, Value};
@@ -37,7 +37,7 @@ fn look_at_row(
     };
     follow(numbers, number, was, is_candidate(&row))?;
     note_row(times, at.moment, number, row.phase)?;
-    add_of_any_kind(found, at, &row_in(old), number, &row)
+    add_of_row(found, at, &row_in(old), number, &row)
 }
 
 fn look_at_change(

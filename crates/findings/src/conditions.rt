@@ -2,14 +2,14 @@
 ghost use Rattle.std.specs.Prelude.{◌≡◌, false};
 ghost use Rattle.std.specs.Option.{option_map_or};
 ghost use Rattle.links_drains.specs.Links.{has_flag};
-ghost use Rattle.findings.specs.Conditions.{needs_wake_up, overflows, has_entries, has_completions, counter_of, answer_of, is_of_enter, is_of_push, has_closed, is_of_close, is_of_step, waits, condition_holds};
+ghost use Rattle.findings.specs.Conditions.{needs_wake_up, overflows, has_entries, has_completions, counter_of, answer_of, has_closed, is_of_step, waits, condition_holds};
 ghost use Rattle.findings.specs.Endings.{is_error, is_less};
 ghost use Rattle.findings.specs.Searching.{facts_before};
 
 use crate::canceling::{Cancel, cancel_before};
-use crate::uses::{Sought, changes_at, first_pushed, is_of_number, is_of_put};
+use crate::uses::{Sought, changes_at, first_pushed, is_held, is_named, is_pushed_last};
 use entries::{EBUSY, EINVAL, IORING_SQ_CQ_OVERFLOW, IORING_SQ_NEED_WAKEUP};
-use finding_kinds::{Kind, descriptor_number, instruction_at};
+use finding_kinds::{LastingKind, StepKind, descriptor_number, instruction_at};
 use machine::{Event, Instruction, Setup, State};
 use places::{Place, Stage, Value};
 
@@ -138,27 +138,6 @@ fn is_answered_less(number: u32, state: &State, thread: u32) -> bool
     }
 }
 
-// Returns whether an enter of `to_submit` entries is a finding of this kind about its thread.
-fn is_of_enter(kind: Kind, to_submit: u32, state: &State, thread: u32) -> bool
-    ensures { result ≡ is_of_enter kind to_submit state.now thread }
-{
-    match kind {
-        Kind::Busy => is_refused(EBUSY as u64, state, thread),
-        Kind::TakenShort => is_answered_less(to_submit, state, thread),
-        Kind::RefusedFlags => is_refused(EINVAL as u64, state, thread),
-        _ => false,
-    }
-}
-
-fn is_of_push(kind: Kind, index: u32, state: &State) -> bool
-    ensures { result ≡ is_of_push kind index state.now }
-{
-    match kind {
-        Kind::NoSuchSlot => state.value(Place::Slot(index)).is_none(),
-        _ => false,
-    }
-}
-
 // Returns whether the close that the thread has now done succeeded.
 fn has_closed(state: &State, thread: u32) -> bool
     ensures { result ≡ has_closed state.now thread }
@@ -167,12 +146,6 @@ fn has_closed(state: &State, thread: u32) -> bool
         Some(answer) => answer == 0,
         None => false,
     }
-}
-
-fn is_of_close(kind: Kind, fd: i32, state: &State, thread: u32) -> bool
-    ensures { result ≡ is_of_close kind fd state.now thread }
-{
-    has_closed(state, thread) && is_of_number(kind, state, fd)
 }
 
 /// Returns the first slot, pushed and not yet taken, whose entry names the descriptor that the
@@ -192,7 +165,7 @@ pub(crate) fn slot_met(setup: &Setup, state: &State, event: Event, before: Befor
 /// Returns whether a step of a thread is a finding of this kind. `changes` says whether it changed
 /// a slot; `state` is the state after it.
 pub(crate) fn is_of_step(
-    kind: Kind,
+    kind: StepKind,
     changes: bool,
     instruction: &Instruction,
     state: &State,
@@ -200,11 +173,24 @@ pub(crate) fn is_of_step(
 ) -> bool
     ensures { result ≡ is_of_step kind changes instruction.now state.now thread }
 {
-    match instruction {
-        Instruction::Enter { to_submit, .. } => is_of_enter(kind, *to_submit, state, thread),
-        Instruction::Push(index) => is_of_push(kind, *index, state),
-        Instruction::Put(slot, _) => is_of_put(kind, changes, *slot, state),
-        Instruction::Close(fd) => is_of_close(kind, *fd, state, thread),
+    match (kind, instruction) {
+        (StepKind::Busy, Instruction::Enter { .. }) => is_refused(EBUSY as u64, state, thread),
+        (StepKind::TakenShort, Instruction::Enter { to_submit, .. }) => {
+            is_answered_less(*to_submit, state, thread)
+        }
+        (StepKind::RefusedFlags, Instruction::Enter { .. }) => {
+            is_refused(EINVAL as u64, state, thread)
+        }
+        (StepKind::NoSuchSlot, Instruction::Push(index)) => {
+            state.value(Place::Slot(*index)).is_none()
+        }
+        (StepKind::SlotInUse, Instruction::Put(slot, _)) => changes && is_pushed_last(state, *slot),
+        (StepKind::ClosedEarly, Instruction::Close(fd)) => {
+            has_closed(state, thread) && is_named(state, *fd)
+        }
+        (StepKind::ClosedWhileHeld, Instruction::Close(fd)) => {
+            has_closed(state, thread) && is_held(state, *fd)
+        }
         _ => false,
     }
 }
@@ -223,14 +209,13 @@ fn waits(setup: &Setup, state: &State, thread: u32) -> bool
 }
 
 /// Returns whether a condition holds that is a finding if it lasts to the end of the run.
-pub(crate) fn condition_holds(setup: &Setup, kind: Kind, state: &State, subject: u32) -> bool
+pub(crate) fn condition_holds(setup: &Setup, kind: LastingKind, state: &State, subject: u32) -> bool
     ensures { result ≡ condition_holds setup.now kind state.now subject }
 {
     match kind {
-        Kind::LostWakeUp => subject == 0 && (needs_wake_up(state) && has_entries(state)),
-        Kind::NotTaken => subject == 0 && (!needs_wake_up(state) && has_entries(state)),
-        Kind::NotReaped => subject == 0 && (overflows(state) || has_completions(state)),
-        Kind::Waits => waits(setup, state, subject),
-        _ => false,
+        LastingKind::LostWakeUp => subject == 0 && (needs_wake_up(state) && has_entries(state)),
+        LastingKind::NotTaken => subject == 0 && (!needs_wake_up(state) && has_entries(state)),
+        LastingKind::NotReaped => subject == 0 && (overflows(state) || has_completions(state)),
+        LastingKind::Waits => waits(setup, state, subject),
     }
 }

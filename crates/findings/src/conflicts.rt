@@ -10,7 +10,7 @@ use crate::files::{is_same_descriptor, is_same_file};
 use crate::leftover::row_at;
 use crate::transition::Transition;
 use entries::{IOSQE_IO_DRAIN, Phase, Row, Sqe};
-use finding_kinds::{Kind, MOST_ROWS, descriptor_number};
+use finding_kinds::{ConflictKind, MOST_ROWS, descriptor_number};
 use links_drains::{is_guard, is_issued, is_unfinished};
 use machine::{Setup, State};
 use opcodes::Op;
@@ -221,7 +221,7 @@ fn is_synced_early(setup: &Setup, number: u32, done: &Row, other: u32, row: &Row
 
 // Returns whether the completion of `done` conflicts with `row`, whatever their order.
 fn would_conflict(
-    kind: Kind,
+    kind: ConflictKind,
     at: Transition<'_>,
     number: u32,
     done: &Row,
@@ -234,33 +234,38 @@ fn would_conflict(
 {
     let count = moved(done.phase);
     match kind {
-        Kind::BufferInUse => {
+        ConflictKind::BufferInUse => {
             done.entry.opcode == Op::Read as u8 && is_in_buffer(done.entry.addr, count, row)
         }
-        Kind::Unordered => {
+        ConflictKind::Unordered => {
             (is_write(&done.entry) || is_write(&row.entry))
                 && (is_over(at.setup, at.state, count, &done.entry, row)
                     && is_same_file(at.setup, &done.entry, &row.entry))
         }
-        Kind::SharedPosition => {
+        ConflictKind::SharedPosition => {
             (0 < count && 0 < row.entry.len) && is_by_position(at.setup, &done.entry, &row.entry)
         }
-        Kind::FsyncEarly => is_synced_early(at.setup, number, done, other, row),
-        _ => false,
+        ConflictKind::FsyncEarly => is_synced_early(at.setup, number, done, other, row),
     }
 }
 
 // Returns whether a store to this memory is a finding of this kind about the request.
-fn is_stored_over(kind: Kind, address: u64, count: u64, row: &Row) -> bool
+fn is_stored_over(kind: ConflictKind, address: u64, count: u64, row: &Row) -> bool
     ensures { result ≡ is_stored_over kind address count row.now }
 {
     match kind {
-        Kind::BufferInUse => is_in_buffer(address, count, row),
+        ConflictKind::BufferInUse => is_in_buffer(address, count, row),
         _ => false,
     }
 }
 
-fn is_conflict(kind: Kind, at: Transition<'_>, effect: &Effect, number: u32, row: &Row) -> bool
+fn is_conflict(
+    kind: ConflictKind,
+    at: Transition<'_>,
+    effect: &Effect,
+    number: u32,
+    row: &Row,
+) -> bool
     ensures { result ≡ is_conflict kind at.entry.setup.now at.entry.state.now effect.now number
         row.now }
 {
@@ -276,7 +281,7 @@ fn is_conflict(kind: Kind, at: Transition<'_>, effect: &Effect, number: u32, row
 
 /// Returns whether the event's deed is a finding of this kind about an incomplete READ or WRITE.
 pub(crate) fn conflicts(
-    kind: Kind,
+    kind: ConflictKind,
     at: Transition<'_>,
     effect: &Effect,
     number: u32,

@@ -1,16 +1,15 @@
 //! Findings about requests that an event submits or completes (io_uring_enter(2)).
-ghost use Rattle.std.specs.Prelude.{◌≡◌, ◌+◌, ◌&&◌, None, false, slice_get};
+ghost use Rattle.std.specs.Prelude.{◌≡◌, ◌+◌, None, slice_get};
 ghost use Rattle.timeouts_cancel.specs.Cascades.{is_bad, is_transfer};
-ghost use Rattle.std.specs.Option.{option_map_or};
 ghost use Rattle.links_drains.specs.Links.{has_flag, is_linked};
-ghost use Rattle.findings.specs.Endings.{had_ended, was_issued, ending_of, is_error, is_less, is_reported_apart, next_in, has_next, leaves_chain, is_of, has_idle_field, comes_as, row_test};
+ghost use Rattle.findings.specs.Endings.{had_ended, was_issued, ending_of, is_error, is_less, is_reported_apart, next_in, has_next, leaves_chain, is_of, has_idle_field, comes_as, ended_test, queued_test};
 
 use crate::leftover::row_at;
 use crate::twins::has_twin;
 use entries::{
     EALREADY, ECANCELED, ENOENT, ETIME, IOSQE_IO_HARDLINK, IOSQE_IO_LINK, Phase, Row, Sqe,
 };
-use finding_kinds::{Kind, distance_to_next};
+use finding_kinds::{EndedKind, QueuedKind, distance_to_next};
 use links_drains::{is_guard, is_soft_linked};
 use machine::State;
 use opcodes::{Op, is_cancel, is_timer};
@@ -110,7 +109,7 @@ fn is_reported_apart(row: &Row, res: i32) -> bool
 // Returns whether a soft-linked request breaks its chain itself, rather than being canceled because
 // an earlier member broke it.
 fn severs(before: &Option<Row>, row: &Row, res: i32) -> bool
-    ensures { result ≡ is_of Kind.Severed before.now row.now None res }
+    ensures { result ≡ is_of EndedKind.Severed before.now row.now None res }
 {
     is_soft_linked(row) && (is_bad(row, res) && (was_issued(before) || !is_canceled(res)))
 }
@@ -158,20 +157,26 @@ fn leaves_chain(before: &Option<Row>, row: &Row, res: i32) -> bool
 }
 
 // Returns whether completing with this result is a finding of this kind.
-fn is_of(kind: Kind, before: &Option<Row>, state: &State, number: u32, row: &Row, res: i32) -> bool
+fn is_of(
+    kind: EndedKind,
+    before: &Option<Row>,
+    state: &State,
+    number: u32,
+    row: &Row,
+    res: i32,
+) -> bool
     ensures { result ≡ is_of kind before.now row.now (next_in state.now.table number) res }
 {
     match kind {
-        Kind::Failed => res < 0 && !is_reported_apart(row, res),
-        Kind::Short => is_transfer(row) && is_less(res, row.entry.len),
-        Kind::Severed => severs(before, row, res),
-        Kind::Canceled => is_canceled(res),
-        Kind::TimedOut => is_guard(row) && is_out_of_time(res),
-        Kind::Expired => row.entry.opcode == Op::Timeout as u8 && is_out_of_time(res),
-        Kind::NotFound => is_cancel(row.entry.opcode) && is_not_there(res),
-        Kind::TooLate => is_cancel(row.entry.opcode) && is_under_way(res),
-        Kind::WentOn => leaves_chain(before, row, res) && has_next(row, state, number),
-        _ => false,
+        EndedKind::Failed => res < 0 && !is_reported_apart(row, res),
+        EndedKind::Short => is_transfer(row) && is_less(res, row.entry.len),
+        EndedKind::Severed => severs(before, row, res),
+        EndedKind::Canceled => is_canceled(res),
+        EndedKind::TimedOut => is_guard(row) && is_out_of_time(res),
+        EndedKind::Expired => row.entry.opcode == Op::Timeout as u8 && is_out_of_time(res),
+        EndedKind::NotFound => is_cancel(row.entry.opcode) && is_not_there(res),
+        EndedKind::TooLate => is_cancel(row.entry.opcode) && is_under_way(res),
+        EndedKind::WentOn => leaves_chain(before, row, res) && has_next(row, state, number),
     }
 }
 
@@ -191,21 +196,26 @@ fn is_linked(entry: &Sqe) -> bool
 }
 
 // Returns whether submitting the request is a finding of this kind, by the state after the event.
-fn comes_as(kind: Kind, state: &State, number: u32, row: &Row) -> bool
+fn comes_as(kind: QueuedKind, state: &State, number: u32, row: &Row) -> bool
     ensures { result ≡ comes_as kind state.now.table number row.now }
 {
     match kind {
-        Kind::CutOff => is_linked(&row.entry) && row_after(state, number, 1).is_none(),
-        Kind::NoEffect => has_idle_field(&row.entry),
-        Kind::SameUserData => has_twin(state, number, row),
-        _ => false,
+        QueuedKind::CutOff => is_linked(&row.entry) && row_after(state, number, 1).is_none(),
+        QueuedKind::NoEffect => has_idle_field(&row.entry),
+        QueuedKind::SameUserData => has_twin(state, number, row),
     }
 }
 
-fn ends_as(kind: Kind, before: &Option<Row>, state: &State, number: u32, row: &Row) -> bool
-    ensures { result ≡ option_map_or
-        (is_of kind before.now row.now (next_in state.now.table number))
-        (ending_of before.now row.now) false }
+/// Returns whether the event completes the request, and that is a finding of this kind. `before` is
+/// the request before the event, `row` after it.
+pub(crate) fn ended_test(
+    kind: EndedKind,
+    before: &Option<Row>,
+    state: &State,
+    number: u32,
+    row: &Row,
+) -> bool
+    ensures { result ≡ ended_test kind before.now state.now.table number row.now }
 {
     match ending_of(before, row) {
         Some(res) => is_of(kind, before, state, number, row, res),
@@ -213,17 +223,15 @@ fn ends_as(kind: Kind, before: &Option<Row>, state: &State, number: u32, row: &R
     }
 }
 
-/// Returns whether the event completes or submits the request, and that is a finding of this kind.
-/// `before` is the request before the event, `row` after it.
-pub(crate) fn row_test(
-    kind: Kind,
+/// Returns whether the event submits the request, and that is a finding of this kind.
+pub(crate) fn queued_test(
+    kind: QueuedKind,
     before: &Option<Row>,
     state: &State,
     number: u32,
     row: &Row,
 ) -> bool
-    ensures { result ≡ row_test kind before.now state.now.table number row.now }
+    ensures { result ≡ queued_test kind before.now state.now.table number row.now }
 {
-    ends_as(kind, before, state, number, row)
-        || (before.is_none() && comes_as(kind, state, number, row))
+    before.is_none() && comes_as(kind, state, number, row)
 }

@@ -1,62 +1,25 @@
-//! Collecting the findings of one event, list by list of kinds.
+//! Collecting the findings of one event, group by group of kinds.
 ghost use Rattle.std.specs.Prelude.{◌≡◌, ◌++◌, OnOk};
 ghost use Rattle.std.specs.List.{flat_map};
 ghost use Rattle.std.specs.Option.{option_copied};
-ghost use Rattle.findings.specs.Endings.{row_test};
 ghost use Rattle.findings.specs.Conditions.{overflows};
 ghost use Rattle.finding_kinds.specs.Programs.{instruction_at};
-ghost use Rattle.findings.specs.Records.{given, row_kinds, of_row, row_in, of_overflow, of_instruction, of_step, of_kinds, of_cancel, of_candidate, of_number, of_effect};
+ghost use Rattle.findings.specs.Records.{given, of_ended, of_queued, of_row, row_in, of_overflow, of_instruction, of_step, of_canceling, of_cancel, of_candidate, of_number, of_effect};
 
 use crate::canceling::{Cancel, is_of_cancel};
 use crate::conditions::{is_of_step, overflows};
 use crate::conflicts::conflicts;
 use crate::effect::Effect;
-use crate::ends::row_test;
+use crate::ends::{ended_test, queued_test};
 use crate::leftover::row_at;
 use crate::transition::Transition;
 use entries::Row;
-use finding_kinds::{Finding, Kind, instruction_at};
+use finding_kinds::{
+    CancelKind, ConflictKind, EndedKind, Finding, Kind, QueuedKind, StepKind, instruction_at,
+};
 use machine::{Event, Instruction, State};
 use places::Value;
 use std::alloc::AllocError;
-
-/// The kinds that are about requests which an event submits or completes.
-const ROW_KINDS: [Kind; 12] = [
-    Kind::Failed,
-    Kind::Short,
-    Kind::Severed,
-    Kind::Canceled,
-    Kind::TimedOut,
-    Kind::Expired,
-    Kind::NotFound,
-    Kind::TooLate,
-    Kind::CutOff,
-    Kind::WentOn,
-    Kind::NoEffect,
-    Kind::SameUserData,
-];
-
-/// The kinds that are about steps of threads.
-const STEP_KINDS: [Kind; 7] = [
-    Kind::Busy,
-    Kind::TakenShort,
-    Kind::NoSuchSlot,
-    Kind::SlotInUse,
-    Kind::ClosedEarly,
-    Kind::ClosedWhileHeld,
-    Kind::RefusedFlags,
-];
-
-/// The kinds that are about the matches of a cancel or removal.
-const CANCEL_KINDS: [Kind; 3] = [Kind::Several, Kind::LeftRunning, Kind::NotFound];
-
-/// The kinds that are about conflicts with an incomplete READ or WRITE.
-const CONFLICT_KINDS: [Kind; 4] = [
-    Kind::BufferInUse,
-    Kind::Unordered,
-    Kind::SharedPosition,
-    Kind::FsyncEarly,
-];
 
 // Appends a finding if the test is true.
 pub(crate) fn add_if(
@@ -72,32 +35,52 @@ pub(crate) fn add_if(
     Ok(())
 }
 
-// Adds the findings of some kinds about a request.
-fn add_of_row(
+// Adds the findings about the completion of a request.
+fn add_of_ended(
     found: &mut Vec<Finding>,
     at: Transition<'_>,
     before: &Option<Row>,
     number: u32,
     row: &Row,
-    kinds: &[Kind],
 ) -> Result<(), AllocError>
-    ensures { OnOk result (found.new.items ≡ found.old.items ++ of_row at.entry.moment before.now
-        at.entry.state.now.table number row.now kinds.now) }
+    ensures { OnOk result (found.new.items ≡ found.old.items ++ of_ended at.entry.moment before.now
+        at.entry.state.now.table number row.now) }
 {
-    for kind in kinds {
+    for kind in EndedKind::ALL {
         let finding = Finding {
             moment: at.moment,
-            kind: *kind,
+            kind: Kind::Ended(kind),
             subject: number,
         };
-        let test = row_test(*kind, before, at.state, number, row);
-        add_if(found, test, finding)?;
+        add_if(found, ended_test(kind, before, at.state, number, row), finding)?;
     }
     Ok(())
 }
 
-/// Adds the findings of all kinds about a request.
-pub(crate) fn add_of_any_kind(
+// Adds the findings about the submission of a request.
+fn add_of_queued(
+    found: &mut Vec<Finding>,
+    at: Transition<'_>,
+    before: &Option<Row>,
+    number: u32,
+    row: &Row,
+) -> Result<(), AllocError>
+    ensures { OnOk result (found.new.items ≡ found.old.items ++ of_queued at.entry.moment
+        before.now at.entry.state.now.table number row.now) }
+{
+    for kind in QueuedKind::ALL {
+        let finding = Finding {
+            moment: at.moment,
+            kind: Kind::Queued(kind),
+            subject: number,
+        };
+        add_if(found, queued_test(kind, before, at.state, number, row), finding)?;
+    }
+    Ok(())
+}
+
+/// Adds the findings about a request.
+pub(crate) fn add_of_row(
     found: &mut Vec<Finding>,
     at: Transition<'_>,
     before: &Option<Row>,
@@ -105,9 +88,10 @@ pub(crate) fn add_of_any_kind(
     row: &Row,
 ) -> Result<(), AllocError>
     ensures { OnOk result (found.new.items ≡ found.old.items ++ of_row at.entry.moment before.now
-        at.entry.state.now.table number row.now row_kinds) }
+        at.entry.state.now.table number row.now) }
 {
-    add_of_row(found, at, before, number, row, &ROW_KINDS)
+    add_of_ended(found, at, before, number, row)?;
+    add_of_queued(found, at, before, number, row)
 }
 
 /// Returns the request that a value is, if it is one.
@@ -137,24 +121,23 @@ fn add_overflow(
     add_if(found, !before && after, finding)
 }
 
-// Adds the findings of some kinds about an instruction that a thread did.
+// Adds the findings about an instruction that a thread did.
 fn add_of_instruction(
     found: &mut Vec<Finding>,
     at: Transition<'_>,
     instruction: &Instruction,
     thread: u32,
-    kinds: &[Kind],
 ) -> Result<(), AllocError>
     ensures { OnOk result (found.new.items ≡ found.old.items ++ of_instruction at.entry.moment
-        at.entry.before.changes instruction.now at.entry.state.now thread kinds.now) }
+        at.entry.before.changes instruction.now at.entry.state.now thread) }
 {
-    for kind in kinds {
+    for kind in StepKind::ALL {
         let finding = Finding {
             moment: at.moment,
-            kind: *kind,
+            kind: Kind::Step(kind),
             subject: thread,
         };
-        let test = is_of_step(*kind, at.before.changes, instruction, at.state, thread);
+        let test = is_of_step(kind, at.before.changes, instruction, at.state, thread);
         add_if(found, test, finding)?;
     }
     Ok(())
@@ -172,30 +155,29 @@ fn add_of_step(
 {
     match (instruction, at.event) {
         (Some(instruction), Event::Step(thread)) => {
-            add_of_instruction(found, at, instruction, thread, &STEP_KINDS)
+            add_of_instruction(found, at, instruction, thread)
         }
         _ => Ok(()),
     }
 }
 
-// Adds the findings of some kinds about a completed cancel or removal.
-fn add_of_kinds(
+// Adds the findings about a completed cancel or removal.
+fn add_of_canceling(
     found: &mut Vec<Finding>,
     moment: u32,
     cancel: &Cancel,
     state: &State,
-    kinds: &[Kind],
 ) -> Result<(), AllocError>
-    ensures { OnOk result (found.new.items ≡
-        found.old.items ++ of_kinds moment cancel.now state.now.table kinds.now) }
+    ensures { OnOk result (found.new.items ≡ found.old.items
+        ++ of_canceling moment cancel.now state.now.table) }
 {
-    for kind in kinds {
+    for kind in CancelKind::ALL {
         let finding = Finding {
             moment,
-            kind: *kind,
+            kind: Kind::Cancel(kind),
             subject: cancel.number,
         };
-        add_if(found, is_of_cancel(*kind, cancel, state), finding)?;
+        add_if(found, is_of_cancel(kind, cancel, state), finding)?;
     }
     Ok(())
 }
@@ -210,7 +192,7 @@ fn add_of_cancel(
         found.old.items ++ of_cancel moment cancel state.now.table) }
 {
     match cancel {
-        Some(cancel) => add_of_kinds(found, moment, &cancel, state, &CANCEL_KINDS),
+        Some(cancel) => add_of_canceling(found, moment, &cancel, state),
         None => Ok(()),
     }
 }
@@ -230,26 +212,24 @@ pub(crate) fn add_of_event(found: &mut Vec<Finding>, at: Transition<'_>) -> Resu
     add_of_cancel(found, at.moment, at.before.cancel, at.state)
 }
 
-// Adds the findings of some kinds about a conflict with one READ or WRITE.
+// Adds the conflicts with one READ or WRITE.
 fn add_of_candidate(
     found: &mut Vec<Finding>,
     at: Transition<'_>,
     effect: &Effect,
     number: u32,
     row: &Row,
-    kinds: &[Kind],
 ) -> Result<(), AllocError>
     ensures { OnOk result (found.new.items ≡ found.old.items ++ of_candidate at.entry.moment
-        at.entry.setup.now at.entry.state.now effect.now number row.now kinds.now) }
+        at.entry.setup.now at.entry.state.now effect.now number row.now) }
 {
-    for kind in kinds {
+    for kind in ConflictKind::ALL {
         let finding = Finding {
             moment: at.moment,
-            kind: *kind,
+            kind: Kind::Conflict(kind),
             subject: number,
         };
-        let test = conflicts(*kind, at, effect, number, row);
-        add_if(found, test, finding)?;
+        add_if(found, conflicts(kind, at, effect, number, row), finding)?;
     }
     Ok(())
 }
@@ -264,7 +244,7 @@ fn add_of_number(
         at.entry.setup.now at.entry.state.now effect.now number) }
 {
     match row_at(at.state, number) {
-        Some(row) => add_of_candidate(found, at, effect, number, &row, &CONFLICT_KINDS),
+        Some(row) => add_of_candidate(found, at, effect, number, &row),
         None => Ok(()),
     }
 }

@@ -145,7 +145,6 @@ impl Search {
     /// the run's end.
     pub fn finish(
         self,
-        alloc: Global,
         setup: &Setup,
         events: &[Event],
         state: &State,
@@ -163,8 +162,10 @@ impl Search {
             ..
         } = self;
         add_end(&mut found, &watches, setup, events.len() as u32, state)?;
-        let findings = in_order(alloc, found)?;
-        Ok(Found { findings, history })
+        Ok(Found {
+            findings: in_order(found),
+            history,
+        })
     }
 }
 
@@ -216,7 +217,7 @@ pub fn search_run(
         return Err(Ended::Memory);
     };
     drive(state, setup, events, &mut search)?;
-    match search.finish(alloc, setup, events, state) {
+    match search.finish(setup, events, state) {
         Ok(found) => Ok(found),
         Err(_) => Err(Ended::Memory),
     }

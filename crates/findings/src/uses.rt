@@ -4,11 +4,12 @@ ghost use Rattle.std.specs.Option.{option_copied, option_map_or};
 ghost use Rattle.std.specs.List.{list_any};
 ghost use Rattle.ring_words.specs.Rings.{waiting, sub_list};
 ghost use Rattle.links_drains.specs.Holding.{is_number};
-ghost use Rattle.findings.specs.Uses.{changes_slot, changes_at, names_descriptor, is_sought, is_pushed, pushed_last, is_of_put, is_met, is_of_closed, is_of_number};
+ghost use Rattle.machine.specs.Steps.{number_in};
+ghost use Rattle.findings.specs.Uses.{changes_slot, changes_at, names_descriptor, is_sought, is_pushed, is_pushed_last, is_user, is_named, is_held};
 
 use crate::leftover::row_at;
 use entries::{Phase, Row, Sqe};
-use finding_kinds::{Kind, descriptor_number};
+use finding_kinds::descriptor_number;
 use links_drains::is_issued;
 use machine::{Instruction, State};
 use opcodes::uses_descriptor;
@@ -18,6 +19,15 @@ use ring_words::SubRing;
 
 /// How many of the last pushed indexes a put is compared with. The limit bounds the cost of a step.
 const LOOKED_AT: u32 = 64;
+
+/// How a request uses a descriptor.
+#[derive(Clone, Copy)]
+pub enum Usage {
+    /// It is queued and names it.
+    Names,
+    /// It is issued and holds it.
+    Holds,
+}
 
 /// What to search for among the indexes that wait in the submission ring.
 #[derive(Clone, Copy)]
@@ -106,44 +116,44 @@ pub(crate) fn first_pushed(state: &State, sought: Sought) -> Option<u32>
     first_after(state.submissions(), sought, 0)
 }
 
-// Returns whether one of the last pushed indexes, still waiting, is this slot.
-fn is_pushed_last(ring: &SubRing, slot: u32) -> bool
-    ensures { result ≡ list_any (is_sought ring.now.slots (Sought.Named slot))
-        (pushed_last ring.now) }
+/// Returns whether one of the last pushed indexes, still waiting, is this slot.
+pub(crate) fn is_pushed_last(state: &State, slot: u32) -> bool
+    ensures { result ≡ is_pushed_last state.now.submissions slot }
 {
+    let ring = state.submissions();
     let passed = ring.waiting().saturating_sub(LOOKED_AT);
     first_after(ring, Sought::Named(slot), passed).is_some()
 }
 
-// Returns whether the request is one that a close of the descriptor is a finding about.
-fn is_met(kind: Kind, fd: u32, row: &Row) -> bool
-    ensures { result ≡ is_met kind fd row.now }
+// ---- closed descriptors
+
+// Returns whether the request uses the descriptor so.
+fn is_user(usage: Usage, fd: u32, row: &Row) -> bool
+    ensures { result ≡ is_user usage fd row.now }
 {
-    match kind {
-        Kind::ClosedEarly => {
-            matches!(row.phase, Phase::Queued) && names_descriptor(fd, &row.entry)
-        }
-        Kind::ClosedWhileHeld => is_issued(row) && is_number(row.held, fd),
-        _ => false,
+    match usage {
+        Usage::Names => matches!(row.phase, Phase::Queued) && names_descriptor(fd, &row.entry),
+        Usage::Holds => is_issued(row) && is_number(row.held, fd),
     }
 }
 
-fn meets_at(state: &State, kind: Kind, fd: u32, number: u32) -> bool
-    ensures { result ≡ option_map_or (is_met kind fd) (slice_get state.now.table number) false }
+fn is_user_at(state: &State, usage: Usage, fd: u32, number: u32) -> bool
+    ensures { result
+        ≡ option_map_or (is_user usage fd) (slice_get state.now.table number) false }
 {
     match row_at(state, number) {
-        Some(row) => is_met(kind, fd, &row),
+        Some(row) => is_user(usage, fd, &row),
         None => false,
     }
 }
 
-// Returns whether some request is. Completed requests never are, so they are skipped.
-fn meets(state: &State, kind: Kind, fd: u32) -> bool
-    ensures { result ≡ list_any (is_met kind fd) state.now.table }
+// Returns whether some request does. Completed requests never do, so they are skipped.
+fn has_user(state: &State, usage: Usage, fd: u32) -> bool
+    ensures { result ≡ list_any (is_user usage fd) state.now.table }
 {
     let mut from = 0;
     while let Some(number) = state.next_unfinished(from) {
-        if meets_at(state, kind, fd, number) {
+        if is_user_at(state, usage, fd, number) {
             return true;
         }
         from = number + 1;
@@ -151,37 +161,26 @@ fn meets(state: &State, kind: Kind, fd: u32) -> bool
     false
 }
 
-// ---- kinds
-
-/// Returns whether a put into the slot is a finding of this kind. `changes` says whether it changes
-/// the entry.
-pub(crate) fn is_of_put(kind: Kind, changes: bool, slot: u32, state: &State) -> bool
-    ensures { result ≡ is_of_put kind changes slot state.now }
-{
-    match kind {
-        Kind::SlotInUse => changes && is_pushed_last(state.submissions(), slot),
-        _ => false,
-    }
-}
-
-fn is_of_closed(kind: Kind, state: &State, fd: u32) -> bool
-    ensures { result ≡ is_of_closed kind state.now fd }
-{
-    match kind {
-        Kind::ClosedEarly => {
-            meets(state, Kind::ClosedEarly, fd) || first_pushed(state, Sought::Naming(fd)).is_some()
-        }
-        Kind::ClosedWhileHeld => meets(state, Kind::ClosedWhileHeld, fd),
-        _ => false,
-    }
-}
-
-/// Returns whether a successful close of the descriptor is a finding of this kind.
-pub(crate) fn is_of_number(kind: Kind, state: &State, fd: i32) -> bool
-    ensures { result ≡ is_of_number kind state.now fd }
+/// Returns whether a queued request names the descriptor, or an entry that was pushed and not yet
+/// taken.
+pub(crate) fn is_named(state: &State, fd: i32) -> bool
+    ensures { result ≡ option_map_or (is_named state.now) (number_in fd) false }
 {
     match descriptor_number(fd) {
-        Some(number) => is_of_closed(kind, state, number),
+        Some(number) => {
+            has_user(state, Usage::Names, number)
+                || first_pushed(state, Sought::Naming(number)).is_some()
+        }
+        None => false,
+    }
+}
+
+/// Returns whether an issued request holds the descriptor.
+pub(crate) fn is_held(state: &State, fd: i32) -> bool
+    ensures { result ≡ option_map_or (is_held state.now) (number_in fd) false }
+{
+    match descriptor_number(fd) {
+        Some(number) => has_user(state, Usage::Holds, number),
         None => false,
     }
 }

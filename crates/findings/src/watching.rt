@@ -4,14 +4,14 @@ ghost use Rattle.std.specs.List.{flat_map};
 ghost use Rattle.findings.specs.Watched.{continued, advanced, of_rings, watched, fresh, of_lasting};
 
 use crate::conditions::condition_holds;
-use finding_kinds::{Finding, Kind};
+use finding_kinds::{Finding, Kind, LastingKind};
 use machine::{Setup, State};
 use std::alloc::{AllocError, Global};
 
 /// A condition, and since which moment it has held; None if it doesn't hold.
 #[derive(Clone, Copy)]
 pub struct Watch {
-    pub kind: Kind,
+    pub kind: LastingKind,
     /// The thread in question, or 0 for the rings.
     pub subject: u32,
     pub since: Option<u32>,
@@ -53,7 +53,7 @@ pub(crate) fn advance(setup: &Setup, state: &State, moment: u32, watches: &mut [
     }
 }
 
-fn fresh(kind: Kind, subject: u32) -> Watch
+fn fresh(kind: LastingKind, subject: u32) -> Watch
     ensures { result ≡ fresh kind subject }
 {
     Watch {
@@ -67,9 +67,9 @@ fn watches_of_rings(alloc: Global) -> Result<Vec<Watch>, AllocError>
     ensures { IfOk result (λ list. list.items ≡ of_rings) }
 {
     let mut list = Vec::new(alloc);
-    list.push(fresh(Kind::LostWakeUp, 0))?;
-    list.push(fresh(Kind::NotTaken, 0))?;
-    list.push(fresh(Kind::NotReaped, 0))?;
+    list.push(fresh(LastingKind::LostWakeUp, 0))?;
+    list.push(fresh(LastingKind::NotTaken, 0))?;
+    list.push(fresh(LastingKind::NotReaped, 0))?;
     Ok(list)
 }
 
@@ -82,7 +82,7 @@ pub(crate) fn watches_of(alloc: Global, setup: &Setup) -> Result<Vec<Watch>, All
     };
     let mut list = watches_of_rings(alloc)?;
     for thread in 0..threads {
-        list.push(fresh(Kind::Waits, thread))?;
+        list.push(fresh(LastingKind::Waits, thread))?;
     }
     Ok(list)
 }
@@ -95,7 +95,7 @@ fn add_lasting(found: &mut Vec<Finding>, watch: &Watch) -> Result<(), AllocError
         Some(moment) => {
             found.push(Finding {
                 moment,
-                kind: watch.kind,
+                kind: Kind::Lasting(watch.kind),
                 subject: watch.subject,
             })?;
             Ok(())

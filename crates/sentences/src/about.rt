@@ -3,6 +3,7 @@
 use crate::names::RowName;
 use crate::run::Run;
 use entries::Row;
+use finding_kinds::Finding;
 
 /// A finding about a row: its number, the row at the end of the run, and the event's moment.
 #[derive(Clone, Copy)]
@@ -15,6 +16,16 @@ pub(crate) struct About {
 }
 
 impl About {
+    /// Returns what a finding, with this index among all, says about its row, if there is one.
+    pub fn new(run: &Run<'_>, finding: &Finding, index: usize) -> Option<About> {
+        Some(About {
+            number: finding.subject,
+            row: run.row(finding.subject)?,
+            moment: finding.moment,
+            index,
+        })
+    }
+
     pub fn name(&self) -> RowName {
         RowName::new(self.number, &self.row)
     }

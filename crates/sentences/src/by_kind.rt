@@ -6,7 +6,9 @@ use crate::rules::{LINK_TIMEOUT_RULE, TIMEOUT_RULE};
 use crate::run::Run;
 use crate::uses::UserPhase;
 use crate::{cancels, chains, conflicts, durable, errors, left, matches, rings, uses};
-use finding_kinds::{Finding, Kind};
+use finding_kinds::{
+    CancelKind, ConflictKind, EndedKind, Finding, Kind, LastingKind, LeftKind, QueuedKind, StepKind,
+};
 use std::alloc::{AllocError, Global};
 
 const READ_RULE: &str =
@@ -42,64 +44,107 @@ fn timed_out(alloc: Global, run: &Run<'_>, about: &About) -> Result<String, Allo
     )
 }
 
-fn row_sentence(
+fn ended_sentence(
     alloc: Global,
     run: &Run<'_>,
-    kind: Kind,
+    kind: EndedKind,
     about: &About,
 ) -> Result<String, AllocError> {
     match kind {
-        Kind::Failed => errors::failed(alloc, run, about),
-        Kind::Short => short(alloc, run, about),
-        Kind::Severed => chains::severed(alloc, run, about),
-        Kind::Canceled => chains::canceled(alloc, run, about),
-        Kind::TimedOut => timed_out(alloc, run, about),
-        Kind::Expired => expired(alloc, about),
-        Kind::NotFound => cancels::not_found(alloc, run, about),
-        Kind::TooLate => cancels::too_late(alloc, run, about),
-        Kind::CutOff => chains::cut_off(alloc, run, about),
-        Kind::WentOn => chains::went_on(alloc, run, about),
-        Kind::NoEffect => errors::no_effect(alloc, about),
-        Kind::Several => matches::several(alloc, run, about),
-        Kind::LeftRunning => matches::left_running(alloc, run, about),
-        Kind::SameUserData => matches::same_user_data(alloc, run, about),
-        _ => conflict_sentence(alloc, run, kind, about),
+        EndedKind::Failed => errors::failed(alloc, run, about),
+        EndedKind::Short => short(alloc, run, about),
+        EndedKind::Severed => chains::severed(alloc, run, about),
+        EndedKind::Canceled => chains::canceled(alloc, run, about),
+        EndedKind::TimedOut => timed_out(alloc, run, about),
+        EndedKind::Expired => expired(alloc, about),
+        EndedKind::NotFound => cancels::not_found(alloc, run, about),
+        EndedKind::TooLate => cancels::too_late(alloc, run, about),
+        EndedKind::WentOn => chains::went_on(alloc, run, about),
     }
 }
 
-// Of a finding about a row that hadn't ended.
+fn lasting_sentence(
+    alloc: Global,
+    run: &Run<'_>,
+    kind: LastingKind,
+    finding: &Finding,
+) -> Result<String, AllocError> {
+    match kind {
+        LastingKind::Waits => rings::waits(alloc, run, finding.subject, finding.moment),
+        LastingKind::LostWakeUp => rings::lost_wake_up(alloc, run),
+        LastingKind::NotTaken => rings::not_taken(alloc, run),
+        LastingKind::NotReaped => rings::not_reaped(alloc, run),
+    }
+}
+
+fn left_sentence(
+    alloc: Global,
+    run: &Run<'_>,
+    kind: LeftKind,
+    subject: u32,
+) -> Result<String, AllocError> {
+    match kind {
+        LeftKind::Unfinished => left::unfinished(alloc, run, subject),
+        LeftKind::NotDurable => durable::not_durable(alloc, run, subject),
+    }
+}
+
 fn conflict_sentence(
     alloc: Global,
     run: &Run<'_>,
-    kind: Kind,
+    kind: ConflictKind,
     about: &About,
 ) -> Result<String, AllocError> {
     match kind {
-        Kind::BufferInUse => conflicts::buffer_in_use(alloc, run, about),
-        Kind::Unordered => conflicts::unordered(alloc, run, about),
-        Kind::SharedPosition => conflicts::shared_position(alloc, run, about),
-        Kind::FsyncEarly => conflicts::fsync_early(alloc, run, about),
-        _ => Ok(String::new(alloc)),
+        ConflictKind::BufferInUse => conflicts::buffer_in_use(alloc, run, about),
+        ConflictKind::Unordered => conflicts::unordered(alloc, run, about),
+        ConflictKind::SharedPosition => conflicts::shared_position(alloc, run, about),
+        ConflictKind::FsyncEarly => conflicts::fsync_early(alloc, run, about),
     }
 }
 
-// The sentence of a finding about a row.
-fn sentence_of_row(
+fn step_sentence(
     alloc: Global,
     run: &Run<'_>,
-    finding: Finding,
-    index: usize,
+    kind: StepKind,
+    thread: u32,
+    moment: u32,
 ) -> Result<String, AllocError> {
-    let Some(row) = run.row(finding.subject) else {
-        return Ok(String::new(alloc));
-    };
-    let about = About {
-        number: finding.subject,
-        row,
-        moment: finding.moment,
-        index,
-    };
-    row_sentence(alloc, run, finding.kind, &about)
+    match kind {
+        StepKind::Busy => rings::busy(alloc, run, thread, moment),
+        StepKind::TakenShort => rings::taken_short(alloc, run, thread, moment),
+        StepKind::NoSuchSlot => rings::no_such_slot(alloc, run, thread, moment),
+        StepKind::SlotInUse => uses::slot_in_use(alloc, run, thread, moment),
+        StepKind::ClosedEarly => uses::closed(alloc, run, thread, moment, UserPhase::Queued),
+        StepKind::ClosedWhileHeld => uses::closed(alloc, run, thread, moment, UserPhase::Issued),
+        StepKind::RefusedFlags => rings::refused_flags(alloc, run, thread, moment),
+    }
+}
+
+fn queued_sentence(
+    alloc: Global,
+    run: &Run<'_>,
+    kind: QueuedKind,
+    about: &About,
+) -> Result<String, AllocError> {
+    match kind {
+        QueuedKind::CutOff => chains::cut_off(alloc, run, about),
+        QueuedKind::NoEffect => errors::no_effect(alloc, about),
+        QueuedKind::SameUserData => matches::same_user_data(alloc, run, about),
+    }
+}
+
+fn cancel_sentence(
+    alloc: Global,
+    run: &Run<'_>,
+    kind: CancelKind,
+    about: &About,
+) -> Result<String, AllocError> {
+    match kind {
+        CancelKind::NoneFound => cancels::not_found(alloc, run, about),
+        CancelKind::Several => matches::several(alloc, run, about),
+        CancelKind::LeftRunning => matches::left_running(alloc, run, about),
+    }
 }
 
 /// The sentence of a finding, by its place in the list of the findings of a run.
@@ -107,27 +152,18 @@ pub fn sentence(alloc: Global, run: &Run<'_>, index: usize) -> Result<String, Al
     let Some(finding) = run.found.get(index) else {
         return Ok(String::new(alloc));
     };
-    match finding.kind {
-        Kind::Overflow => rings::overflow(alloc, run, finding.moment),
-        Kind::Busy => rings::busy(alloc, run, finding.subject, finding.moment),
-        Kind::TakenShort => rings::taken_short(alloc, run, finding.subject, finding.moment),
-        Kind::NoSuchSlot => rings::no_such_slot(alloc, run, finding.subject, finding.moment),
-        Kind::SlotInUse => uses::slot_in_use(alloc, run, finding.subject, finding.moment),
-        Kind::ClosedEarly => {
-            let user_phase = UserPhase::Queued;
-            uses::closed(alloc, run, finding.subject, finding.moment, user_phase)
+    let (subject, moment) = (finding.subject, finding.moment);
+    match (finding.kind, About::new(run, finding, index)) {
+        (Kind::Overflow, _) => rings::overflow(alloc, run, moment),
+        (Kind::Lasting(kind), _) => lasting_sentence(alloc, run, kind, finding),
+        (Kind::Left(kind), _) => left_sentence(alloc, run, kind, subject),
+        (Kind::Step(kind), _) => step_sentence(alloc, run, kind, subject, moment),
+        (Kind::Ended(kind), Some(about)) => ended_sentence(alloc, run, kind, &about),
+        (Kind::Conflict(kind), Some(about)) => conflict_sentence(alloc, run, kind, &about),
+        (Kind::Queued(kind), Some(about)) => queued_sentence(alloc, run, kind, &about),
+        (Kind::Cancel(kind), Some(about)) => cancel_sentence(alloc, run, kind, &about),
+        (Kind::Ended(_) | Kind::Conflict(_) | Kind::Queued(_) | Kind::Cancel(_), None) => {
+            Ok(String::new(alloc))
         }
-        Kind::ClosedWhileHeld => {
-            let user_phase = UserPhase::Issued;
-            uses::closed(alloc, run, finding.subject, finding.moment, user_phase)
-        }
-        Kind::RefusedFlags => rings::refused_flags(alloc, run, finding.subject, finding.moment),
-        Kind::Waits => rings::waits(alloc, run, finding.subject, finding.moment),
-        Kind::LostWakeUp => rings::lost_wake_up(alloc, run),
-        Kind::NotTaken => rings::not_taken(alloc, run),
-        Kind::NotReaped => rings::not_reaped(alloc, run),
-        Kind::Unfinished => left::unfinished(alloc, run, finding.subject),
-        Kind::NotDurable => durable::not_durable(alloc, run, finding.subject),
-        _ => sentence_of_row(alloc, run, *finding, index),
     }
 }

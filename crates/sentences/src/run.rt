@@ -2,7 +2,7 @@
 
 use crate::names::RowName;
 use entries::{Phase, Row};
-use finding_kinds::{Finding, History, Kind, Times, instruction_at};
+use finding_kinds::{EndedKind, Finding, History, Kind, Times, instruction_at};
 use machine::{Event, Instruction, Setup, State};
 use places::{Place, Value};
 
@@ -134,7 +134,7 @@ impl Run<'_> {
     /// Returns whether a finding is that another row of a row's chain was canceled at a moment.
     fn is_cut(&self, finding: &Finding, number: u32, moment: u32) -> bool {
         finding.moment == moment
-            && matches!(finding.kind, Kind::Canceled)
+            && finding.kind == Kind::Ended(EndedKind::Canceled)
             && number != finding.subject
             && self.are_of_one_chain(number, finding.subject)
     }
@@ -158,7 +158,7 @@ impl Run<'_> {
     fn reported_before(
         &self,
         index: usize,
-        kind: Kind,
+        kind: EndedKind,
         number: u32,
         moment: u32,
         below: u32,
@@ -167,7 +167,7 @@ impl Run<'_> {
             if finding.moment != moment {
                 return None;
             }
-            if finding.kind.number() == kind.number()
+            if finding.kind == Kind::Ended(kind)
                 && finding.subject < below
                 && self.are_of_one_chain(finding.subject, number)
             {
@@ -179,11 +179,11 @@ impl Run<'_> {
 
     /// Returns the row before another that broke its chain at a moment. The list has it first.
     pub(crate) fn severing(&self, index: usize, number: u32, moment: u32) -> Option<u32> {
-        self.reported_before(index, Kind::Severed, number, moment, number)
+        self.reported_before(index, EndedKind::Severed, number, moment, number)
     }
 
     /// The row that failed at a moment, and with it the chain of another.
     pub(crate) fn failing(&self, index: usize, number: u32, moment: u32) -> Option<u32> {
-        self.reported_before(index, Kind::Failed, number, moment, u32::MAX)
+        self.reported_before(index, EndedKind::Failed, number, moment, u32::MAX)
     }
 }

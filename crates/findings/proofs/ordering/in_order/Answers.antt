@@ -1,11 +1,19 @@
 use Rattle.std.proofs.Common.{rules}
-use Rattle.std.proofs.lemmas.List.Sorted.{IsNonDecreasingBy-from_sort_by_key}
-use Rattle.finding_kinds.specs.Kinds.{rank}
-use Rattle.findings.proofs.Distinct.{sorted_same}
+use Rattle.std.proofs.lemmas.List.Filters.{dedup_is}
+use Rattle.std.proofs.lemmas.List.Kept.{Contains-dedup, Contains-from_dedup, IsStrictlySortedBy-dedup}
+use Rattle.std.proofs.lemmas.List.Sorted.{Contains-permutation, IsPermutation-sym}
+use Rattle.finding_kinds.specs.contracts.finding.FindingOrd.TheImpl.Laws as ordered
+use Rattle.finding_kinds.specs.contracts.finding.FindingEq.TheImpl.Laws as compared
 use Rattle.findings.proofs.ordering.in_order.Goals as goal
 
-pub distinct-requires : goal.distinct-requires
-distinct-requires c = rw c.deref.ensures.value (IsNonDecreasingBy-from_sort_by_key rank _ c.sort_unstable_by_key.ensures.sorted (λ a r q k. search rules))
+pub returns-clause-rises : goal.returns-clause-rises
+returns-clause-rises c = rw (dedup_is _ _ _ c.dedup.ensures.filtered) (IsStrictlySortedBy-dedup ordered.total-law ordered.matches_eq-law _ c.sort_unstable.ensures.sorted)
 
 pub returns-clause-same : goal.returns-clause-same
-returns-clause-same c = sorted_same c.distinct.result (λ v. v.items) c.args.found.items c.deref.result.now (rw c.deref.ensures.value c.sort_unstable_by_key.ensures.permutation) c.distinct.ensures.same
+returns-clause-same c =
+    let is = dedup_is _ _ _ c.dedup.ensures.filtered in
+    let moved = c.sort_unstable.ensures.permutation in
+    record {
+      there = λ f h. rw is (Contains-dedup compared.laws-law (λ a b e. search rules) _ f (Contains-permutation _ _ f moved h));
+      back = λ f h. Contains-permutation _ _ f (IsPermutation-sym _ _ moved) (Contains-from_dedup _ _ f (rw is at h));
+    }

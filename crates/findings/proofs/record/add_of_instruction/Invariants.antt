@@ -1,6 +1,10 @@
 use Rattle.std.proofs.Common.{◌≡◌, ◌++◌, take}
-use Rattle.findings.specs.Records.{of_instruction}
+use Rattle.finding_kinds.specs.declared.kind.Kind.TheVariants.{Step}
+use Rattle.finding_kinds.specs.declared.kind.StepKind.{StepKind}
+use Rattle.finding_kinds.specs.declared.kind.TheConstants.StepKind.{ALL as step_kinds}
+use Rattle.findings.specs.Conditions.{is_of_step}
+use Rattle.findings.specs.Records.{of_group}
 use Rattle.findings.proofs.record.add_of_instruction.Given as goal
 
 abbrev pub invariant-loop-kind : goal.invariant-loop-kind
-invariant-loop-kind l = l.found.items ≡ l.fn.found.items ++ of_instruction l.at.moment l.at.before.changes l.instruction l.at.state.now l.thread (take l.kind-index l.kinds)
+invariant-loop-kind l = l.found.items ≡ l.fn.found.items ++ of_group Step (λ (kind : StepKind). is_of_step kind l.at.before.changes l.instruction l.at.state.now l.thread) l.at.moment l.thread (take l.kind-index step_kinds)

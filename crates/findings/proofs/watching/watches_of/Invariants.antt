@@ -1,5 +1,5 @@
 use Rattle.std.proofs.Common.{◌≡◌, ◌++◌, map}
-use Rattle.finding_kinds.specs.declared.kind.Kind.TheVariants.{Waits}
+use Rattle.finding_kinds.specs.declared.kind.LastingKind.TheVariants.{Waits}
 use Rattle.findings.specs.Watched.{of_rings, fresh, numbers_below}
 use Rattle.findings.proofs.watching.watches_of.Given as goal
 

@@ -4,4 +4,4 @@ use Rattle.findings.proofs.searching.Search.finish.Goals as goal
 pub returns : goal.returns
 returns c =
     let all = seen_all _ _ c.args.state.now _ _ _ _ _ c.requires.seen c.requires.at c.deref.ensures.value c.in_ok-add_end.ensures in
-    report_of _ _ _ _ all c.in_ok-findings.ensures.same c.in_ok-findings.ensures.rises
+    report_of _ _ _ _ all c.in_order.ensures.same c.in_order.ensures.rises

@@ -1,0 +1,10 @@
+use Rattle.finding_kinds.specs.declared.kind.Kind.TheVariants.{Conflict}
+use Rattle.finding_kinds.specs.declared.kind.ConflictKind.{ConflictKind}
+use Rattle.finding_kinds.specs.declared.kind.TheConstants.ConflictKind.{ALL as conflict_kinds}
+use Rattle.findings.specs.Conflicts.{conflicts}
+use Rattle.findings.proofs.Groups.{group_more}
+use Rattle.findings.proofs.record.add_of_candidate.Goals as goal
+
+pub loop-kind-preserved : goal.loop-kind-preserved
+loop-kind-preserved c =
+    group_more Conflict (λ (kind : ConflictKind). conflicts kind c.args.at.setup.now c.args.at.state.now c.args.effect.now c.args.number c.args.row.now) c.args.at.moment c.args.number conflict_kinds c.loop-kind.kind-index _ c.conflicts.result _ c.loop-kind.found.items _ c.loop-kind-test.true c.conflicts.ensures c.loop-kind.invariant c.in_ok-add_if.ensures
