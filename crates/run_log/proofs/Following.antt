@@ -1,8 +1,8 @@
--- A log after one more event, and a log that ends early.
-use Rattle.std.proofs.Common.{◌≡◌, ◌⊎◌, inl, inr, ℕ, ◌+◌, ◌<◌, suc, List, ◌++◌, length, get_or, slice_get, Bool, true, Option, Some, None, refl, sym, ap, ◌∙◌, subst, arith, append_assoc}
+-- A log after one more event, and a log that stops.
+use Rattle.std.proofs.Common.{◌≡◌, ◌⊎◌, inl, inr, ℕ, ◌+◌, ◌<◌, suc, List, [], ◌++◌, length, slice_get, Bool, true, false, Option, Some, refl, sym, ap, ◌∙◌, subst, arith, append_assoc}
 use Rattle.std.specs.Prelude.{⊤, Result, Ok, Err, OnOk, IfOk, IfErr}
-use Rattle.std.proofs.KnownBytes.{Appends-trans, Appends-kept}
-use Rattle.std.proofs.lemmas.Option.{slice_get-get_or}
+use Rattle.std.proofs.KnownBytes.{Appends-nil, Appends-trans, Appends-kept}
+use Rattle.std.proofs.lemmas.Option.{slice_get_within}
 use Rattle.std.specs.Io.KnownBytes.{Appends, Keeps}
 use Rattle.places.specs.declared.value.Change.{Change}
 use Rattle.places.specs.View.{View, Exact, NamesOnce}
@@ -10,20 +10,22 @@ use Rattle.scenario.specs.declared.event.Event.{Event}
 use Rattle.scenario.specs.declared.setup.Setup.{Setup}
 use Rattle.machine.specs.declared.whole.Machine.{Machine}
 use Rattle.machine.specs.Whole.{view}
-use Rattle.machine.specs.Steps.{after, refusal, Next}
-use Rattle.machine.specs.Runs.{start, moment, IsRefused}
-use Rattle.machine.proofs.Longer.{accepts_more, moment_more}
+use Rattle.machine.specs.Runs.{moment}
 use Rattle.whole_files.specs.Writes.{WritesFront}
-use Rattle.script.specs.declared.log_fault.LogFault.{LogFault}
-use Rattle.script.specs.declared.log_fault.LogFault.TheVariants.{Script, Trace, Schedule, Write, Memory}
+use Rattle.runs.specs.Faults.{of_driving}
+use Rattle.runs.specs.Moments.{IsAfter, Ends}
+use Rattle.runs.specs.declared.driving.Ended.{Ended}
+use Rattle.runs.specs.declared.driving.Ended.TheVariants as ended
+use Rattle.runs.specs.declared.fault.ReportFault.{ReportFault}
+use Rattle.runs.specs.declared.fault.ReportFault.TheVariants.{Write, Memory}
 use Rattle.run_log.specs.declared.range.EventRange.{EventRange}
 use Rattle.run_log.specs.declared.changed.Changed.{Changed}
 use Rattle.run_log.specs.Lines.{event_lines}
 use Rattle.run_log.specs.Listings.{IsListing}
 use Rattle.run_log.specs.Ranges.{has}
-use Rattle.run_log.specs.Logs.{Shows, Reports, ReportsIf, Reported, Halts, Logs, Written, Stopped}
+use Rattle.run_log.specs.Logs.{Shows, Reports, ReportsIf, Logs, Written, Stopped}
 
--- ---- one event
+-- ---- the lines of an event
 
 -- The lines of an event, from the result of a call.
 pub shows_of : {T E : Type 0} (x : Result T E) (items : T → List ℕ) (s : Setup) (i : ℕ) (e : Event) (v : View) (past : List Change) (listed ds : List Changed) → NamesOnce past → IsListing v past listed → ds ≡ listed
@@ -31,91 +33,96 @@ pub shows_of : {T E : Type 0} (x : Result T E) (items : T → List ℕ) (s : Set
 shows_of (Ok t) items s i e v past listed ds once listing same h = record { once = once; listed = listed; listing = listing; lines = h ∙ ap (event_lines s i e) same }
 shows_of (Err f) items s i e v past listed ds once listing same h = tt
 
-pub reports_of : (s : Setup) (i : ℕ) (m n : Machine) (e : Event) (past : List Change) (text : List ℕ) → Next m e n → Exact (view m) (view n) past → Shows s i e (view n) past text → Reports s i m e text
-reports_of s i m n e past text next exact shows = record {
+reports_of : (s : Setup) (es : List Event) (i : ℕ) (e : Event) (past : List Change) (m : Machine) (text : List ℕ) → IsAfter s es i e past m → Shows s i e (view m) past text → Reports s i (moment s es i) e text
+reports_of s es i e past m text a shows = record {
   past = past;
-  exact = subst (λ x. Exact (view m) (view x) past) next.changed exact;
-  shows = subst (λ x. Shows s i e (view x) past text) next.changed shows;
+  exact = subst (λ x. Exact (view (moment s es i)) (view x) past) a.link.next.changed a.exact;
+  shows = subst (λ x. Shows s i e (view x) past text) a.link.next.changed shows;
 }
 
-pub reported_lines : (reported : Bool) (s : Setup) (i : ℕ) (m n : Machine) (e : Event) (past : List Change) (text : List ℕ) (a b : Option (List ℕ)) → reported ≡ true → Next m e n → Exact (view m) (view n) past
-    → Shows s i e (view n) past text → Appends a b text → Reported reported s i m e a b
-reported_lines reported s i m n e past text a b t next exact shows w =
-    record { text = text; report = subst (λ x. ReportsIf x s i m e text) (sym t) (reports_of s i m n e past text next exact shows); appended = w }
-
-pub halted_write : (reported : Bool) (s : Setup) (i : ℕ) (m n : Machine) (e : Event) (past : List Change) (f : LogFault) (a b : Option (List ℕ)) → reported ≡ true → Next m e n → Exact (view m) (view n) past
-    → ((f ≡ Memory) × Keeps a b) ⊎ ((f ≡ Write) × (text : List ℕ) × Shows s i e (view n) past text × WritesFront a b text) → Halts reported s i m e f a b
-halted_write reported s i m n e past f a b t next exact (inl h) = subst (λ x. Halts reported s i m e x a b) (sym h.0) h.1
-halted_write reported s i m n e past f a b t next exact (inr h) =
-    let report : ReportsIf reported s i m e h.1 = subst (λ x. ReportsIf x s i m e h.1) (sym t) (reports_of s i m n e past h.1 next exact h.2) in
-    let all : Halts reported s i m e Write a b = (next.accepted, h.1, report, h.3) in
-    subst (λ x. Halts reported s i m e x a b) (sym h.0) all
-
--- ---- events in a row
-
--- The log of the first i events was written, and `m` is the state after them.
-pub record Logging (s : Setup) (es : List Event) (r : EventRange) (i : ℕ) (m : Machine) (held held' : Option (List ℕ)) : Type 0 where
-  pub here : m ≡ moment s es i
-  pub done : Written s es r i held held'
-
-pub logging_more : (s : Setup) (es : List Event) (r : EventRange) (i : ℕ) (m n : Machine) (e d : Event) (a b c : Option (List ℕ)) → i < length es → Logging s es r i m a b → e ≡ get_or es i d
-    → Next m e n → Reported (has r i) s i m e b c → Logging s es r (i + 1) n a c
-logging_more s es r i m n e d a b c h l g next reported =
+-- The text of i + 1 events, from the text of i events.
+logs_more : (s : Setup) (es : List Event) (r : EventRange) (i : ℕ) (e : Event) (past : List Change) (m : Machine) (before last : List ℕ) → IsAfter s es i e past m → ReportsIf (has r i) s i (moment s es i) e last
+    → Logs s es r i before → Logs s es r (i + 1) (before ++ last)
+logs_more s es r i e past m before last a report log =
     let up : suc i ≡ i + 1 = omega arith in
-    let there : slice_get es i ≡ Some e = slice_get-get_or es i d h ∙ ap Some (sym g) in
-    let report : ReportsIf (has r i) s i (moment s es i) e reported.text = subst (λ x. ReportsIf (has r i) s i x e reported.text) l.here reported.report in
-    let accepted : refusal (moment s es i) e ≡ None = ap (λ x. refusal x e) (sym l.here) ∙ next.accepted in
-    let log : Logs s es r (suc i) (l.done.text ++ reported.text) = (l.done.text, reported.text, e, refl, there, report, l.done.log) in
+    let all : Logs s es r (suc i) (before ++ last) = (before, last, e, refl, a.there, report, log) in
+    subst (λ k. Logs s es r k (before ++ last)) up all
+
+-- ---- one more event
+
+written_with : (s : Setup) (es : List Event) (r : EventRange) (i : ℕ) (e : Event) (past : List Change) (m : Machine) (last : List ℕ) (a b c : Option (List ℕ)) → IsAfter s es i e past m
+    → ReportsIf (has r i) s i (moment s es i) e last → Written s es r i a b → Appends b c last → Written s es r (i + 1) a c
+written_with s es r i e past m last a b c at report w more =
+    let inside : i < length es = slice_get_within es i e at.there in
     record {
-      here = next.changed ∙ ap (λ x. after x e) l.here ∙ sym (moment_more s es i e d h g);
-      done = record {
-        within = omega arith;
-        runs = accepts_more (start s) es i e d h g l.done.runs accepted;
-        text = l.done.text ++ reported.text;
-        log = subst (λ k. Logs s es r k (l.done.text ++ reported.text)) up log;
-        appended = Appends-trans a b c _ _ l.done.appended reported.appended;
-      };
+      within = omega (arith, inside);
+      runs = at.at.runs;
+      text = w.text ++ last;
+      log = logs_more s es r i e past m w.text last at report w.log;
+      appended = Appends-trans a b c _ _ w.appended more;
     }
 
-kept : (s : Setup) (es : List Event) (r : EventRange) (i : ℕ) (a b c : Option (List ℕ)) → Written s es r i a b → Keeps b c → Written s es r i a c
-kept s es r i a b c w k = record { within = w.within; runs = w.runs; text = w.text; log = w.log; appended = Appends-kept a b c _ w.appended k }
+-- An event that isn't in the range.
+pub written_silent : (s : Setup) (es : List Event) (r : EventRange) (i : ℕ) (e : Event) (past : List Change) (m : Machine) (a b : Option (List ℕ)) → IsAfter s es i e past m → has r i ≡ false
+    → Written s es r i a b → Written s es r (i + 1) a b
+written_silent s es r i e past m a b at off w =
+    let report : ReportsIf (has r i) s i (moment s es i) e [] = subst (λ x. ReportsIf x s i (moment s es i) e []) (sym off) refl in
+    written_with s es r i e past m [] a b b at report w (Appends-nil b)
 
-pub logging_stops : (s : Setup) (es : List Event) (r : EventRange) (i : ℕ) (m : Machine) (e d : Event) (a b c : Option (List ℕ)) (f : LogFault) → i < length es → Logging s es r i m a b → e ≡ get_or es i d
-    → Halts (has r i) s i m e f b c → Stopped s es r f a c
-logging_stops s es r i m e d a b c (Schedule j n) h l g stop =
-    let there : slice_get es i ≡ Some e = slice_get-get_or es i d h ∙ ap Some (sym g) in
-    let refused : IsRefused s es i n = record { runs = l.done.runs; event = e; there = there; refused = ap (λ x. refusal x e) (sym l.here) ∙ stop.1 } in
-    (subst (λ k. IsRefused s es k n) (sym stop.0) refused, subst (λ k. Written s es r k a c) (sym stop.0) (kept s es r i a b c l.done stop.2))
-logging_stops s es r i m e d a b c Write h l g stop =
-    let up : suc i ≡ i + 1 = omega arith in
-    let there : slice_get es i ≡ Some e = slice_get-get_or es i d h ∙ ap Some (sym g) in
-    let report : ReportsIf (has r i) s i (moment s es i) e stop.1 = subst (λ x. ReportsIf (has r i) s i x e stop.1) l.here stop.2 in
-    let accepted : refusal (moment s es i) e ≡ None = ap (λ x. refusal x e) (sym l.here) ∙ stop.0 in
-    let w = stop.3 in
-    let whole : (l.done.text ++ w.front) ++ w.rest ≡ l.done.text ++ stop.1 = append_assoc l.done.text w.front w.rest ∙ ap (λ x. l.done.text ++ x) (sym w.whole) in
-    let log : Logs s es r (suc i) ((l.done.text ++ w.front) ++ w.rest) = (l.done.text, stop.1, e, whole, there, report, l.done.log) in (
+-- An event in the range, whose lines were written.
+pub written_more : (s : Setup) (es : List Event) (r : EventRange) (i : ℕ) (e : Event) (past : List Change) (m : Machine) (a b c : Option (List ℕ)) → IsAfter s es i e past m → has r i ≡ true
+    → Written s es r i a b → (text : List ℕ) × Shows s i e (view m) past text × Appends b c text → Written s es r (i + 1) a c
+written_more s es r i e past m a b c at on w h =
+    let report : ReportsIf (has r i) s i (moment s es i) e h.0 = subst (λ x. ReportsIf x s i (moment s es i) e h.0) (sym on) (reports_of s es i e past m h.0 at h.1) in
+    written_with s es r i e past m h.0 a b c at report w h.2
+
+-- ---- an end
+
+-- The log is complete before an event.
+pub written_kept : (s : Setup) (es : List Event) (r : EventRange) (i : ℕ) (a b c : Option (List ℕ)) → Written s es r i a b → Keeps b c → Written s es r i a c
+written_kept s es r i a b c w k = record { within = w.within; runs = w.runs; text = w.text; log = w.log; appended = Appends-kept a b c _ w.appended k }
+
+-- A write of the lines of an event failed, or an allocation did.
+pub stopped_at : (s : Setup) (es : List Event) (r : EventRange) (i : ℕ) (e : Event) (past : List Change) (m : Machine) (f : ReportFault) (a b c : Option (List ℕ)) → IsAfter s es i e past m → has r i ≡ true → Written s es r i a b
+    → ((f ≡ Memory) × Keeps b c) ⊎ ((f ≡ Write) × (text : List ℕ) × Shows s i e (view m) past text × WritesFront b c text) → Stopped s es r f a c
+stopped_at s es r i e past m f a b c at on w (inl h) = subst (λ x. Stopped s es r x a c) (sym h.0) (i, written_kept s es r i a b c w h.1)
+stopped_at s es r i e past m f a b c at on w (inr h) =
+    let inside : i < length es = slice_get_within es i e at.there in
+    let front = h.3.front in
+    let rest = h.3.rest in
+    let report : ReportsIf (has r i) s i (moment s es i) e h.1 = subst (λ x. ReportsIf x s i (moment s es i) e h.1) (sym on) (reports_of s es i e past m h.1 at h.2) in
+    let whole : w.text ++ h.1 ≡ (w.text ++ front) ++ rest = ap (λ x. w.text ++ x) h.3.whole ∙ sym (append_assoc w.text front rest) in
+    let log : Logs s es r (i + 1) (w.text ++ h.1) = logs_more s es r i e past m w.text h.1 at report w.log in
+    let stopped : Stopped s es r Write a c = (
       i + 1,
       record {
-        within = omega arith;
-        runs = accepts_more (start s) es i e d h g l.done.runs accepted;
-        front = l.done.text ++ w.front;
-        rest = w.rest;
-        log = subst (λ k. Logs s es r k ((l.done.text ++ w.front) ++ w.rest)) up log;
-        appended = Appends-trans a b c _ _ l.done.appended w.appended;
+        within = omega (arith, inside);
+        runs = at.at.runs;
+        front = w.text ++ front;
+        rest = rest;
+        log = subst (Logs s es r (i + 1)) whole log;
+        appended = Appends-trans a b c _ _ w.appended h.3.appended;
       },
-    )
-logging_stops s es r i m e d a b c Memory h l g stop = (i, kept s es r i a b c l.done stop)
-logging_stops s es r i m e d a b c (Script f) h l g stop = absurd stop
-logging_stops s es r i m e d a b c (Trace f) h l g stop = absurd stop
+    ) in
+    subst (λ x. Stopped s es r x a c) (sym h.0) stopped
 
--- ---- from the results of calls
+-- ---- from the result of a write
 
-pub reported_ok : (r : Result ⊤ LogFault) (reported : Bool) (s : Setup) (i : ℕ) (m n : Machine) (e : Event) (past : List Change) (a b : Option (List ℕ)) → reported ≡ true → Next m e n → Exact (view m) (view n) past
-    → OnOk r ((text : List ℕ) × Shows s i e (view n) past text × Appends a b text) → OnOk r (Reported reported s i m e a b)
-reported_ok (Ok x) reported s i m n e past a b t next exact h = reported_lines reported s i m n e past h.0 a b t next exact h.1 h.2
-reported_ok (Err f) reported s i m n e past a b t next exact h = tt
+pub seen_ok : {X Y : Type 0} (x : Result ⊤ ReportFault) (s : Setup) (es : List Event) (r : EventRange) (i : ℕ) (e : Event) (past : List Change) (m : Machine) (a b c : Option (List ℕ)) → IsAfter s es i e past m → has r i ≡ true → Written s es r i a b
+    → X → Y → OnOk x ((text : List ℕ) × Shows s i e (view m) past text × Appends b c text) → OnOk x (Written s es r (i + 1) a c × X × Y)
+seen_ok (Ok u) s es r i e past m a b c at on w p q h = (written_more s es r i e past m a b c at on w h, p, q)
+seen_ok (Err f) s es r i e past m a b c at on w p q h = tt
 
-pub reported_err : (r : Result ⊤ LogFault) (reported : Bool) (s : Setup) (i : ℕ) (m n : Machine) (e : Event) (past : List Change) (a b : Option (List ℕ)) → reported ≡ true → Next m e n → Exact (view m) (view n) past
-    → IfErr r (λ f. ((f ≡ Memory) × Keeps a b) ⊎ ((f ≡ Write) × (text : List ℕ) × Shows s i e (view n) past text × WritesFront a b text)) → IfErr r (λ f. Halts reported s i m e f a b)
-reported_err (Ok x) reported s i m n e past a b t next exact h = tt
-reported_err (Err f) reported s i m n e past a b t next exact h = halted_write reported s i m n e past f a b t next exact h
+pub stopped_err : {Y : Type 0} (x : Result ⊤ ReportFault) (s : Setup) (es : List Event) (r : EventRange) (i : ℕ) (e : Event) (past : List Change) (m : Machine) (a b c : Option (List ℕ)) → IsAfter s es i e past m → has r i ≡ true → Written s es r i a b
+    → Y → IfErr x (λ f. ((f ≡ Memory) × Keeps b c) ⊎ ((f ≡ Write) × (text : List ℕ) × Shows s i e (view m) past text × WritesFront b c text)) → IfErr x (λ f. Stopped s es r f a c × Y)
+stopped_err (Ok u) s es r i e past m a b c at on w q h = tt
+stopped_err (Err f) s es r i e past m a b c at on w q h = (stopped_at s es r i e past m f a b c at on w h, q)
+
+-- ---- the end of a run
+
+-- A run that ended early, with what its observer saw and why it stops.
+pub stopped_by : {O : Type 0} (seen : O → Setup → List Event → ℕ → Type 0) (stops : O → Setup → List Event → ℕ → ReportFault → Type 0) (s : Setup) (es : List Event) (r : EventRange) (m : Machine) (o : O) (a b : Option (List ℕ))
+    → ((i : ℕ) → seen o s es i → Written s es r i a b) → ((i : ℕ) (f : ReportFault) → stops o s es i f → Stopped s es r f a b) → (x : Ended ReportFault) → Ends seen stops s es m o x → Stopped s es r (of_driving x) a b
+stopped_by seen stops s es r m o a b f g (ended.Refused i n) h = (h.0, f i h.2)
+stopped_by seen stops s es r m o a b f g ended.Memory h = (h.0, f h.0 h.3)
+stopped_by seen stops s es r m o a b f g (ended.Stopped x) h = g h.0 x h.3

@@ -1,5 +1,5 @@
 -- The output of a log.
-use Rattle.std.specs.Prelude.{◌≡◌, ◌≤◌, ◌⊎◌, ℕ, zero, suc, List, [], ◌++◌, length, slice_get, take, Bool, true, false, Option, Some, None, Ok, Err}
+use Rattle.std.specs.Prelude.{◌≡◌, ◌≤◌, ◌⊎◌, ℕ, zero, suc, List, [], ◌++◌, length, slice_get, take, Bool, true, false, Option, Some}
 use Rattle.std.specs.Io.KnownBytes.{Appends, Keeps}
 use Rattle.places.specs.declared.value.Change.{Change}
 use Rattle.places.specs.View.{View, Exact, NamesOnce}
@@ -7,15 +7,16 @@ use Rattle.scenario.specs.declared.event.Event.{Event}
 use Rattle.scenario.specs.declared.setup.Setup.{Setup}
 use Rattle.machine.specs.declared.whole.Machine.{Machine}
 use Rattle.machine.specs.Whole.{view}
-use Rattle.machine.specs.Steps.{after, refusal}
+use Rattle.machine.specs.Steps.{after}
 use Rattle.machine.specs.Runs.{start, moment, Accepts, IsRefused}
-use Rattle.script.specs.Scripts.{Scenario, Reads}
-use Rattle.traces.specs.Reading.{IsFault2}
-use Rattle.traces.specs.Setups.{IsTrace2}
+use Rattle.script.specs.Scripts.{Scenario}
 use Rattle.whole_files.specs.Writes.{WritesFront}
 use Rattle.run_log.specs.declared.changed.Changed.{Changed}
-use Rattle.script.specs.declared.log_fault.LogFault.{LogFault}
-use Rattle.script.specs.declared.log_fault.LogFault.TheVariants.{Script, Trace, Schedule, Write, Memory}
+use Rattle.runs.specs.declared.reading.RunFault.{RunFault}
+use Rattle.runs.specs.Faults.{of_reading}
+use Rattle.runs.specs.Reading.{Reads, IsUnread}
+use Rattle.runs.specs.declared.fault.ReportFault.{ReportFault}
+use Rattle.runs.specs.declared.fault.ReportFault.TheVariants.{Script, Trace, Schedule, Write, Memory}
 use Rattle.run_log.specs.declared.range.EventRange.{EventRange}
 use Rattle.run_log.specs.Ranges.{has}
 use Rattle.run_log.specs.Listings.{IsListing}
@@ -42,22 +43,6 @@ pub record Reports (s : Setup) (i : ℕ) (m : Machine) (e : Event) (text : List 
 abbrev pub ReportsIf : Bool → Setup → ℕ → Machine → Event → List ℕ → Type 0
 ReportsIf true s i m e text = Reports s i m e text
 ReportsIf false s i m e text = text ≡ []
-
--- The text of an event was written.
-pub record Reported (reported : Bool) (s : Setup) (i : ℕ) (m : Machine) (e : Event) (held held' : Option (List ℕ)) : Type 0 where
-  pub text : List ℕ
-  pub report : ReportsIf reported s i m e text
-  pub appended : Appends held held' text
-
--- Why a log ends at an event: the event is refused, a write fails, or an allocation fails.
-abbrev pub Halts : Bool → Setup → ℕ → Machine → Event → LogFault → Option (List ℕ) → Option (List ℕ)
-    → Type 0
-Halts reported s i m e (Schedule j n) held held' = (j ≡ i) × (refusal m e ≡ Some n) × Keeps held held'
-Halts reported s i m e Write held held' =
-    (refusal m e ≡ None) × (text : List ℕ) × ReportsIf reported s i m e text × WritesFront held held' text
-Halts reported s i m e Memory held held' = Keeps held held'
-Halts reported s i m e (Script f) held held' = ⊥
-Halts reported s i m e (Trace f) held held' = ⊥
 
 -- ---- a run
 
@@ -87,7 +72,7 @@ pub record Begun (s : Setup) (es : List Event) (r : EventRange) (n : ℕ) (held 
 
 -- Where a log stopped. Before a refused event or a failed allocation, the log is complete. A failed
 -- write leaves a prefix.
-abbrev pub Stopped : Setup → List Event → EventRange → LogFault → Option (List ℕ) → Option (List ℕ)
+abbrev pub Stopped : Setup → List Event → EventRange → ReportFault → Option (List ℕ) → Option (List ℕ)
     → Type 0
 Stopped s es r (Schedule i n) held held' = IsRefused s es i n × Written s es r i held held'
 Stopped s es r Write held held' = (n : ℕ) × Begun s es r n held held'
@@ -95,51 +80,15 @@ Stopped s es r Memory held held' = (n : ℕ) × Written s es r n held held'
 Stopped s es r (Script f) held held' = ⊥
 Stopped s es r (Trace f) held held' = ⊥
 
--- ---- scripts and traces
+-- ---- a script or a trace
 
--- The log of a script's whole schedule was written.
-abbrev pub LoggedScript : List ℕ → EventRange → Option (List ℕ) → Option (List ℕ) → Type 0
-LoggedScript text r held held' =
-    (p : Scenario) × Reads text (Ok p) × Written p.setup p.schedule r (length p.schedule) held held'
+-- The log of a whole run was written.
+abbrev pub Logged : List ℕ → EventRange → Option (List ℕ) → Option (List ℕ) → Type 0
+Logged bytes r held held' =
+    (p : Scenario) × Reads bytes p × Written p.setup p.schedule r (length p.schedule) held held'
 
--- The log of a trace was written.
-abbrev pub LoggedTrace : List ℕ → EventRange → Option (List ℕ) → Option (List ℕ) → Type 0
-LoggedTrace trace r held held' =
-    (setup : Setup) × (events : List Event) × IsTrace2 setup events trace
-    × Written setup events r (length events) held held'
-
--- Why a script isn't logged. If it has a fault, nothing was written. An allocation can fail before
--- the first event.
-abbrev pub FailsScript : List ℕ → EventRange → LogFault → Option (List ℕ) → Option (List ℕ) → Type 0
-FailsScript text r (Script f) held held' = Reads text (Err f) × Keeps held held'
-FailsScript text r (Trace f) held held' = ⊥
-FailsScript text r (Schedule i n) held held' =
-    (p : Scenario) × Reads text (Ok p) × Stopped p.setup p.schedule r (Schedule i n) held held'
-FailsScript text r Write held held' =
-    (p : Scenario) × Reads text (Ok p) × Stopped p.setup p.schedule r Write held held'
-FailsScript text r Memory held held' =
-    Keeps held held'
-    ⊎ ((p : Scenario) × Reads text (Ok p) × Stopped p.setup p.schedule r Memory held held')
-
--- Why a trace isn't logged.
-abbrev pub FailsTrace : List ℕ → EventRange → LogFault → Option (List ℕ) → Option (List ℕ) → Type 0
-FailsTrace trace r (Script f) held held' = ⊥
-FailsTrace trace r (Trace f) held held' = IsFault2 trace f × Keeps held held'
-FailsTrace trace r (Schedule i n) held held' =
-    (s : Setup) × (es : List Event) × IsTrace2 s es trace × Stopped s es r (Schedule i n) held held'
-FailsTrace trace r Write held held' =
-    (s : Setup) × (es : List Event) × IsTrace2 s es trace × Stopped s es r Write held held'
-FailsTrace trace r Memory held held' =
-    Keeps held held'
-    ⊎ ((s : Setup) × (es : List Event) × IsTrace2 s es trace × Stopped s es r Memory held held')
-
--- The bytes are a trace or a script.
-abbrev pub LoggedRun : Bool → List ℕ → EventRange → Option (List ℕ) → Option (List ℕ) → Type 0
-LoggedRun true bytes r held held' = LoggedTrace bytes r held held'
-LoggedRun false bytes r held held' = LoggedScript bytes r held held'
-
--- Why a trace or a script isn't logged.
-abbrev pub FailsRun : Bool → List ℕ → EventRange → LogFault → Option (List ℕ) → Option (List ℕ)
-    → Type 0
-FailsRun true bytes r f held held' = FailsTrace bytes r f held held'
-FailsRun false bytes r f held held' = FailsScript bytes r f held held'
+-- Why bytes aren't logged. They can't be read, and nothing was written; or the log stopped.
+abbrev pub Unlogged : List ℕ → EventRange → ReportFault → Option (List ℕ) → Option (List ℕ) → Type 0
+Unlogged bytes r f held held' =
+    ((u : RunFault) × IsUnread bytes u × (f ≡ of_reading u) × Keeps held held')
+    ⊎ ((p : Scenario) × Reads bytes p × Stopped p.setup p.schedule r f held held')

@@ -8,11 +8,8 @@ mod line;
 mod logging;
 mod place_text;
 mod range;
-mod reading;
-mod writing;
 
 pub use changed::{Changed, changes_of};
 pub use line::change_lines;
-pub use logging::log_events;
+pub use logging::{log_events, log_run};
 pub use range::EventRange;
-pub use reading::{log_run, log_script, log_trace};

@@ -1,23 +1,51 @@
 //! Logs a run, event by event.
-ghost use Rattle.std.specs.Prelude.{◌≡◌, ◌≤◌, ◌<◌, ◌^◌, ◌⊎◌, ℕ, List, None, length, IfOk, OnOk, IfErr};
+ghost use Rattle.std.specs.Prelude.{◌≡◌, ◌≤◌, ◌⊎◌, ℕ, List, Option, None, length, IfOk, OnOk, IfErr};
 ghost use Rattle.std.specs.Io.KnownBytes.{Appends, Keeps};
 ghost use Rattle.scenario.specs.Setups.{setup_refusal};
 ghost use Rattle.machine.specs.Whole.{view};
-ghost use Rattle.machine.specs.Steps.{Next};
 ghost use Rattle.machine.specs.Runs.{start};
 ghost use Rattle.whole_files.specs.Writes.{WritesFront};
-ghost use Rattle.run_log.specs.Ranges.{has};
-ghost use Rattle.run_log.specs.Logs.{Shows, Reported, Halts, Written, Stopped};
+ghost use Rattle.run_log.specs.declared.range.EventRange.{EventRange};
+ghost use Rattle.run_log.specs.Logs.{Shows, Written, Stopped, Logged, Unlogged};
 
 use crate::changed::changes_of;
 use crate::line::event_lines;
 use crate::range::EventRange;
-use crate::writing::write_out;
 use machine::{Event, Setup, State};
 use places::Record;
-use script::{LogFault, fault_by};
+use runs::{Observed, Observer, ReportFault, drive, read_run};
 use std::alloc::{AllocError, Global};
 use std::io::Write;
+use std::marker::{Brand, PhantomData};
+use whole_files::write_out;
+
+/// What holds where a log starts.
+pub trait LogStart {
+    // What the writer holds, where that is known, and which reference it is behind.
+    ghost contents: { Option (List ℕ) };
+
+    ghost name: { ℕ };
+
+    // The events to log.
+    ghost range: { EventRange };
+}
+
+impl LogStart for Brand {
+    ghost contents = { None };
+
+    ghost name = { 0 };
+
+    ghost range = { record { from = 0; to = None } };
+}
+
+// Writes the lines of each event in a range as soon as it has run.
+#[derive(Drop)]
+struct Logger<'a, W, S> {
+    alloc: Global,
+    range: EventRange,
+    writer: &'a mut W,
+    start: PhantomData<S>,
+}
 
 // Returns the lines of the event that led to `state`, from its undo record.
 fn report(
@@ -44,72 +72,77 @@ fn write_report<W: Write>(
     past: &Record,
     state: &State,
     writer: &mut W,
-) -> Result<(), LogFault>
+) -> Result<(), ReportFault>
     ensures ok { OnOk result ((text : List ℕ)
         × Shows setup.now index event (view state.now) past.now text
         × Appends (W.contents writer.old) (W.contents writer.new) text) }
-    ensures err { IfErr result (λ f. ((f ≡ LogFault.Memory)
+    ensures err { IfErr result (λ f. ((f ≡ ReportFault.Memory)
         × Keeps (W.contents writer.old) (W.contents writer.new))
-        ⊎ ((f ≡ LogFault.Write) × (text : List ℕ)
+        ⊎ ((f ≡ ReportFault.Write) × (text : List ℕ)
         × Shows setup.now index event (view state.now) past.now text
         × WritesFront (W.contents writer.old) (W.contents writer.new) text)) }
 {
     match report(alloc, setup, index, event, past, state) {
-        Ok(text) => write_out(writer, &text),
-        Err(_) => Err(LogFault::Memory),
+        Ok(text) => match write_out(writer, &text) {
+            Ok(()) => Ok(()),
+            Err(_) => Err(ReportFault::Write),
+        },
+        Err(_) => Err(ReportFault::Memory),
     }
 }
 
-// Runs an event, and writes its lines if it is in the range.
-fn log_event<W: Write>(
-    alloc: Global,
-    state: &mut State,
-    setup: &Setup,
-    index: usize,
-    event: Event,
-    range: EventRange,
-    writer: &mut W,
-) -> Result<(), LogFault>
-    requires { index < 2 ^ 32 }
-    ensures next { OnOk result (Next state.old event state.new) }
-    ensures ok { OnOk result
-        (Reported (has range index) setup.now index state.old event (W.contents writer.old)
-        (W.contents writer.new)) }
-    ensures err { IfErr result
-        (λ f. Halts (has range index) setup.now index state.old event f (W.contents writer.old)
-        (W.contents writer.new)) }
-{
-    let past = match state.step(event) {
-        Ok(past) => past,
-        Err(refusal) => return Err(fault_by(index as u32, refusal)),
-    };
-    if !range.has(index) {
-        return Ok(());
+impl<'a, W: Write, S: LogStart> Observer for Logger<'a, W, S> {
+    type Note = ();
+
+    type Stop = ReportFault;
+
+    ghost has_seen = { λ o s es i. Written s es S.range i S.contents (W.contents o.writer.now)
+        × (o.range ≡ S.range) × (o.writer.ghost_name ≡ S.name) };
+
+    ghost notes = { λ s es i n. Unit {0} };
+
+    ghost stops = { λ o s es i f. Stopped s es S.range f S.contents (W.contents o.writer.now)
+        × (o.writer.ghost_name ≡ S.name) };
+
+    fn before(&self, _at: Observed<'_>) -> Result<(), ReportFault> {
+        Ok(())
     }
-    write_report(alloc, setup, index, event, &past, state, writer)
+
+    fn after(&mut self, at: Observed<'_>, past: &Record, _note: ()) -> Result<(), ReportFault> {
+        if !self.range.has(at.index) {
+            return Ok(());
+        }
+        write_report(
+            self.alloc,
+            at.setup,
+            at.index,
+            at.event,
+            past,
+            at.state,
+            self.writer,
+        )
+    }
 }
 
-// Runs events from the start, and writes the lines of those in the range.
-fn log_all<W: Write>(
-    alloc: Global,
+// Runs events from the start, and shows them to a logger.
+fn log_from<W: Write, S: LogStart>(
     state: &mut State,
     setup: &Setup,
     events: &[Event],
-    range: EventRange,
-    writer: &mut W,
-) -> Result<(), LogFault>
+    logger: &mut Logger<'_, W, S>,
+) -> Result<(), ReportFault>
     requires starts { state.old ≡ start setup.now }
     requires most { length events.now ≤ 1048576 }
-    ensures ok { OnOk result
-        (Written setup.now events.now range (length events.now) (W.contents writer.old)
-        (W.contents writer.new)) }
-    ensures err { IfErr result
-        (λ f. Stopped setup.now events.now range f (W.contents writer.old)
-        (W.contents writer.new)) }
+    requires contents { W.contents logger.old.writer.now ≡ S.contents }
+    requires range { logger.old.range ≡ S.range }
+    requires name { logger.old.writer.ghost_name ≡ S.name }
+    ensures ok { OnOk result (Written setup.now events.now S.range (length events.now) S.contents
+        (W.contents logger.new.writer.now)) }
+    ensures err { IfErr result (λ f. Stopped setup.now events.now S.range f S.contents
+        (W.contents logger.new.writer.now)) }
+    ensures same { logger.new.writer.ghost_name ≡ S.name }
 {
-    for i in 0..events.len() {
-        log_event(alloc, state, setup, i, events[i], range, writer)?;
-    }
+    drive(state, setup, events, logger)?;
     Ok(())
 }
 
@@ -120,7 +153,7 @@ pub fn log_events<W: Write>(
     events: &[Event],
     range: EventRange,
     writer: &mut W,
-) -> Result<(), LogFault>
+) -> Result<(), ReportFault>
     requires starts { setup_refusal setup.now ≡ None }
     requires most { length events.now ≤ 1048576 }
     ensures ok { OnOk result
@@ -131,7 +164,29 @@ pub fn log_events<W: Write>(
         (W.contents writer.new)) }
 {
     let Ok(mut state) = State::new(alloc, setup) else {
-        return Err(LogFault::Memory);
+        return Err(ReportFault::Memory);
     };
-    log_all(alloc, &mut state, setup, events, range, writer)
+    let mut logger = Logger::<W, Brand> {
+        alloc,
+        range,
+        writer,
+        start: PhantomData,
+    };
+    log_from(&mut state, setup, events, &mut logger)
+}
+
+/// Logs a trace if the bytes begin with a `U`, and otherwise a script.
+pub fn log_run<W: Write>(
+    alloc: Global,
+    bytes: &[u8],
+    range: EventRange,
+    writer: &mut W,
+) -> Result<(), ReportFault>
+    ensures ok { OnOk result
+        (Logged bytes.now range (W.contents writer.old) (W.contents writer.new)) }
+    ensures err { IfErr result
+        (λ f. Unlogged bytes.now range f (W.contents writer.old) (W.contents writer.new)) }
+{
+    let run = read_run(alloc, bytes)?;
+    log_events(alloc, run.setup(), run.events(), range, writer)
 }

@@ -1,8 +1,8 @@
 -- The verdict on a schedule is the verdict on its script.
 use Rattle.std.proofs.Common.{ℕ, ◌≤◌, List, length, Ok}
 use Rattle.script.specs.Scripts.{Scenario, Reads, limit}
-use Rattle.script.specs.declared.log_fault.LogFault.{LogFault}
-use Rattle.script.specs.declared.log_fault.LogFault.TheVariants as log
+use Rattle.runs.specs.declared.fault.ReportFault.{ReportFault}
+use Rattle.runs.specs.declared.fault.ReportFault.TheVariants as report
 use Rattle.script_check.specs.declared.verdict.Verdict.{Verdict}
 use Rattle.script_check.specs.declared.verdict.Verdict.TheVariants.{Fine, Faulty, Refused}
 use Rattle.script_check.specs.Verdicts.{Ends, IsVerdict, IsOfOutput, IsUnreported}
@@ -12,9 +12,9 @@ verdict_of_plan text p Fine r e = (p, r, e)
 verdict_of_plan text p (Refused i n) r e = (p, r, e)
 verdict_of_plan text p (Faulty f) r e = absurd e
 
-pub unreported : (text : List ℕ) (f : LogFault) → length text ≤ limit → IsOfOutput f → IsUnreported text f
-unreported text (log.Script f) l h = absurd h
-unreported text (log.Trace f) l h = absurd h
-unreported text (log.Schedule i n) l h = absurd h
-unreported text log.Write l h = (l, h)
-unreported text log.Memory l h = (l, h)
+pub unreported : (text : List ℕ) (f : ReportFault) → length text ≤ limit → IsOfOutput f → IsUnreported text f
+unreported text (report.Script f) l h = absurd h
+unreported text (report.Trace f) l h = absurd h
+unreported text (report.Schedule i n) l h = absurd h
+unreported text report.Write l h = (l, h)
+unreported text report.Memory l h = (l, h)

@@ -5,11 +5,11 @@ ghost use Rattle.script_check.specs.Verdicts.{Ends, IsVerdict, IsOfOutput, IsUnr
 
 use crate::refusals::sentence;
 use crate::report::{Source, event_text, faults_text};
-use crate::running::{Stop, run_all};
 use crate::verdict::Verdict;
 use machine::{Event, Refusal, Setup, State};
+use runs::{Ended, ReportFault, drive};
 use script::items::key_path;
-use script::{Key, LogFault, Script, ScriptFault, read_script};
+use script::{Key, Script, ScriptFault, read_script};
 use std::alloc::{AllocError, Global};
 use std::io::Write;
 use whole_files::write_out;
@@ -18,16 +18,15 @@ use whole_files::write_out;
 const MOST_BYTES: usize = 8388608;
 
 // Writes the report.
-fn write_text<W: Write>(message: Result<String, AllocError>, writer: &mut W) -> Result<(), LogFault>
+fn write_text<W: Write>(
+    message: Result<String, AllocError>,
+    writer: &mut W,
+) -> Result<(), ReportFault>
     ensures { IfErr result IsOfOutput }
 {
-    let Ok(text) = message else {
-        return Err(LogFault::Memory);
-    };
-    match write_out(writer, text.as_str().as_bytes()) {
-        Ok(()) => Ok(()),
-        Err(_) => Err(LogFault::Write),
-    }
+    let text = message?;
+    write_out(writer, text.as_str().as_bytes())?;
+    Ok(())
 }
 
 // The line of an event that is refused in a state.
@@ -37,13 +36,14 @@ fn refusal_text(
     state: &State,
     setup: &Setup,
     events: &[Event],
-    stop: Stop,
+    index: u32,
+    refusal: Refusal,
 ) -> Result<String, AllocError> {
-    let Some(event) = events.get(stop.index as usize) else {
+    let Some(event) = events.get(index as usize) else {
         return Ok(String::new(alloc));
     };
-    let message = sentence(alloc, state, setup, *event, stop.refusal)?;
-    event_text(alloc, source, stop.index, message.as_str())
+    let message = sentence(alloc, state, setup, *event, refusal)?;
+    event_text(alloc, source, index, message.as_str())
 }
 
 // Runs some events from a setup, and returns how that ends.
@@ -53,30 +53,26 @@ fn check_events<W: Write>(
     setup: &Setup,
     events: &[Event],
     writer: &mut W,
-) -> Result<Verdict, LogFault>
+) -> Result<Verdict, ReportFault>
     requires starts { setup_refusal setup.now ≡ None }
     requires most { length events.now ≤ 1048576 }
     ensures ok { IfOk result (Ends setup.now events.now) }
     ensures err { IfErr result IsOfOutput }
 {
     let Ok(mut state) = State::new(alloc, setup) else {
-        return Err(LogFault::Memory);
+        return Err(ReportFault::Memory);
     };
-    match run_all(&mut state, setup, events) {
+    match drive(&mut state, setup, events, &mut ()) {
         Ok(()) => {
             write_text(String::from_str(alloc, "ok\n"), writer)?;
             Ok(Verdict::Fine)
         }
-        Err(stop) => {
-            if let Refusal::Memory = stop.refusal {
-                return Err(LogFault::Memory);
-            }
-            write_text(
-                refusal_text(alloc, source, &state, setup, events, stop),
-                writer,
-            )?;
-            Ok(Verdict::Refused(stop.index, stop.refusal))
+        Err(Ended::Refused(index, refusal)) => {
+            let text = refusal_text(alloc, source, &state, setup, events, index, refusal);
+            write_text(text, writer)?;
+            Ok(Verdict::Refused(index, refusal))
         }
+        Err(Ended::Memory) => Err(ReportFault::Memory),
     }
 }
 
@@ -86,7 +82,7 @@ fn check_plan<W: Write>(
     source: Source<'_>,
     script: &Script,
     writer: &mut W,
-) -> Result<Verdict, LogFault>
+) -> Result<Verdict, ReportFault>
     ensures ok { IfOk result (Ends script.now.setup script.now.schedule) }
     ensures err { IfErr result IsOfOutput }
 {
@@ -103,17 +99,17 @@ pub fn check_script<W: Write>(
     name: &str,
     text: &[u8],
     writer: &mut W,
-) -> Result<Verdict, LogFault>
+) -> Result<Verdict, ReportFault>
     ensures ok { IfOk result (IsVerdict text.now) }
     ensures err { IfErr result (IsUnreported text.now) }
 {
     if text.len() > MOST_BYTES {
-        return Err(LogFault::Script(ScriptFault::Limit(key_path(Key::Document))));
+        return Err(ReportFault::Script(ScriptFault::Limit(key_path(Key::Document))));
     }
     let source = Source { name, text };
     match read_script(alloc, text) {
         Ok(script) => check_plan(alloc, source, &script, writer),
-        Err(ScriptFault::Memory) => Err(LogFault::Memory),
+        Err(ScriptFault::Memory) => Err(ReportFault::Memory),
         Err(fault) => {
             write_text(faults_text(alloc, source, fault), writer)?;
             Ok(Verdict::Faulty(fault))

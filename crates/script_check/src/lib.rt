@@ -12,7 +12,6 @@ mod not_json;
 mod ranges;
 mod refusals;
 mod report;
-mod running;
 mod verdict;
 mod walk;
 
