@@ -7,11 +7,14 @@ SHOWN = 16
 
 @dataclass
 class Difference:
-    """A place, its value here, and its value on the kernel. `subject` is what the place is about."""
+    """A place, its value here, and its value on the kernel. `subject` is what the place is about; `ours` and `theirs` are
+    the results of completions, or the values of words and calls."""
     what: str
     here: str
     kernel: str
     subject: tuple
+    ours: list
+    theirs: list
     name: str = ""
 
     def line(self):
@@ -32,8 +35,9 @@ def of_completions(here, there):
         ours = Counter(it for it in here if it[0] == user)
         theirs = Counter(it for it in there if it[0] == user)
         if ours != theirs:
-            sides = text_of((ours - theirs).elements()), text_of((theirs - ours).elements())
-            yield Difference(f"completion of user_data {user}", *sides, ("completion", user))
+            ours, theirs = [sorted(side.elements()) for side in (ours - theirs, theirs - ours)]
+            results = [[result for _, result, _ in side] for side in (ours, theirs)]
+            yield Difference(f"completion of user_data {user}", text_of(ours), text_of(theirs), ("completion", user), *results)
 
 
 def of_calls(state, outcome):
@@ -44,7 +48,8 @@ def of_calls(state, outcome):
         for call in range(max(len(ours), len(theirs))):
             sides = [(side[call:] or ["none"])[0] for side in (ours, theirs)]
             if sides[0] != sides[1]:
-                yield Difference(f"last {thread}, call {call}", *sides, ("call", thread, call))
+                values = [side[call:call + 1] for side in (ours, theirs)]
+                yield Difference(f"last {thread}, call {call}", *sides, ("call", thread, call), *values)
                 break
 
 
@@ -52,7 +57,7 @@ def of_words(state, outcome):
     for word in ("sq.head", "cq.tail"):
         here, there = state.words[word] % 2 ** 32, outcome.words[word]
         if here != there:
-            yield Difference(word, str(here), str(there), ("word", word))
+            yield Difference(word, str(here), str(there), ("word", word), [here], [there])
 
 
 def shown(raw):
@@ -68,10 +73,11 @@ def of_bytes(name, here, there, subject):
             at += 1
         if at > first:
             where = f"{first}..{at - 1}" if at - first > 1 else f"{first}"
-            yield Difference(f"{name} {where}", shown(here[first:at]), shown(there[first:at]), (*subject, first, at))
+            yield Difference(f"{name} {where}", shown(here[first:at]), shown(there[first:at]), (*subject, first, at), [], [])
         at += 1
     if len(here) != len(there):
-        yield Difference(f"len of {name}", str(len(here)), str(len(there)), (*subject, end, max(len(here), len(there))))
+        where = *subject, end, max(len(here), len(there))
+        yield Difference(f"len of {name}", str(len(here)), str(len(there)), where, [len(here)], [len(there)])
 
 
 def differences(state, outcome):

@@ -35,7 +35,14 @@ class Eager:
                     self.work()
                     self.check_taken(index, event)
         self.flush()
+        self.let_return()
         return self.run
+
+    def let_return(self):
+        """An enter whose completions are there returns, also where the schedule ends before."""
+        for thread, waits in enumerate(self.run.state.waits):
+            if waits and self.run.extend([Event("step", thread)]):
+                self.work()
 
     def next_of(self, thread):
         """Returns a thread's next instruction and whether it waits, once the pending steps are made."""
@@ -100,19 +107,21 @@ class Eager:
         """Returns events that a worker will probably make next."""
         phases = {row.number: row for row in self.open_rows()}
         queued = [row for row in phases.values() if row.phase == "queued"]
-        issued = [row for row in phases.values() if row.phase == "issued"]
+        issued = [row for row in phases.values() if row.phase == "issued" and row.entry.op not in TIMERS]
         found = []
         while True:
             row = next((row for row in queued if self.may_issue(row, phases) and Event("issue", row.number) not in refused), None)
             if row:
                 queued.remove(row)
-                issued = sorted([*issued, row], key=lambda row: row.number)
+                if row.entry.op not in TIMERS:
+                    issued = sorted([*issued, row], key=lambda row: row.number)
                 found.append(Event("issue", row.number))
                 continue
-            row = next((row for row in issued if self.may_finish(row) and Event("finish", row.number) not in refused), None)
-            if not row:
+            row = next((row for row in issued if Event("finish", row.number) not in refused), None)
+            if not row or not self.may_finish(row):
                 return found
             issued.remove(row)
+            refused = set()
             del phases[row.number]
             found.append(Event("finish", row.number))
 
@@ -127,7 +136,7 @@ class Eager:
             return True
         if row.entry.op in (22, 23) and self.is_file(row.entry.fd):
             return True
-        return row.entry.op not in TIMERS and row.number in self.ended
+        return row.number in self.ended
 
     def is_file(self, fd):
         at = fd - 3

@@ -356,6 +356,25 @@ static void make_rings(void) {
     slots = room_for(entries, sizeof *sqes);
 }
 
+static bool is_modelled(uint8_t opcode) {
+    static const uint8_t modelled[] = {0, 3, 6, 7, 11, 12, 14, 15, 22, 23};
+    return memchr(modelled, opcode, sizeof modelled);
+}
+
+/* Fails if a thread has an entry that the model refuses and this kernel might carry out. */
+static void check_opcodes(void) {
+    struct io_uring_probe known = {0};
+    if (syscall(__NR_io_uring_register, ring, IORING_REGISTER_PROBE, &known, 0) < 0)
+        known.last_op = UINT8_MAX;
+    for (uint32_t at = 0; at < threads_count; at++) {
+        for (uint32_t next = 0; next < threads[at].count; next++) {
+            const struct instruction *it = &threads[at].program[next];
+            if (it->kind == PUT && it->bytes[0] <= known.last_op && !is_modelled(it->bytes[0]))
+                fail(1, "opcode %u isn't modelled, and this kernel knows it", it->bytes[0]);
+        }
+    }
+}
+
 /* ---- What the kernel gets: the script's numbers in the form that this process has */
 
 static uint32_t load(const uint32_t *from) { return __atomic_load_n(from, __ATOMIC_ACQUIRE); }
@@ -662,6 +681,7 @@ int main(int count, char **words) {
     read_events(&from);
     read_plan(words[3]);
     make_rings();
+    check_opcodes();
     make_objects(words[2]);
     start_threads();
     sleep_until(now() + SETTLING); /* the poller falls asleep */

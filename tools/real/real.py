@@ -24,9 +24,6 @@ TRIES = 3
 PAGE, MOST_PIPE = 4096, 65536
 MINUTE = 60 * 10 ** 9
 LIMIT = 20 * 10 ** 9
-# Opcodes from here on are unknown to every kernel so far.
-UNKNOWN = 128
-MODELLED = (0, 3, 6, 7, 11, 12, 14, 15, 22, 23)
 USAGE = """Usage: uringwalk-real SCRIPT
 
 Runs the threads of a script on the io_uring of this machine, and compares what happens with the model. The run that it
@@ -74,9 +71,6 @@ def check_setup(setup):
     for it in setup.objects:
         if it.kind == traces.PIPE and next_pipe(it.size) != it.size:
             raise unable(f"pipe {it.name} has {it.size} bytes, which aren't whole pages; {next_pipe(it.size)} are")
-    for entry in setup.entries_put():
-        if entry.op not in MODELLED and entry.op < UNKNOWN:
-            raise unable(f"opcode {entry.op} isn't modelled, and a kernel may know it")
 
 
 def check_schedule(schedule):

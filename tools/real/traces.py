@@ -65,13 +65,6 @@ class Setup:
         """Returns the trace of these events."""
         return self.raw + struct.pack("<I", len(events)) + b"".join(event.packed() for event in events)
 
-    def entries_put(self):
-        """Yields each entry that a thread writes into a slot."""
-        for thread in self.threads:
-            for kind, _, raw in thread:
-                if kind == PUT:
-                    yield Entry.read(raw)
-
 
 class Reader:
     def __init__(self, raw):
