@@ -4,6 +4,8 @@ import shutil
 import subprocess
 from dataclasses import dataclass, field
 
+import children
+
 HERE = os.path.dirname(os.path.realpath(__file__))
 NO_RING, TOO_LONG = 3, 4
 ENOSYS, EPERM, ENOMEM = 38, 1, 12
@@ -36,8 +38,7 @@ def build(room):
     if not compiler:
         raise Unable("there is no C compiler: put cc on the path")
     program = f"{room}/kernel"
-    words = [compiler, "-O1", "-pthread", "-o", program, f"{HERE}/kernel.c"]
-    ran = subprocess.run(words, stdin=subprocess.DEVNULL, capture_output=True, text=True, check=False)
+    ran = children.run([compiler, "-O1", "-pthread", "-o", program, f"{HERE}/kernel.c"], TMPDIR=room)
     if ran.returncode:
         raise Unable(f"cc doesn't build {HERE}/kernel.c: {(ran.stderr.splitlines() or ['it says nothing'])[0]}")
     return program
@@ -78,9 +79,8 @@ def run(program, trace, plan, room):
     for name, contents in (("kernel.trace", trace), ("kernel.plan", plan.encode())):
         with open(f"{room}/{name}", "wb") as it:
             it.write(contents)
-    words = [program, f"{room}/kernel.trace", folder, f"{room}/kernel.plan"]
     try:
-        ran = subprocess.run(words, stdin=subprocess.DEVNULL, capture_output=True, text=True, timeout=SECONDS, check=False)
+        ran = children.run([program, f"{room}/kernel.trace", folder, f"{room}/kernel.plan"], SECONDS)
     except subprocess.TimeoutExpired as it:
         raise NotSettled from it
     if ran.returncode == NO_RING:

@@ -88,6 +88,7 @@ def by_transfer(entry, ours, theirs, kind):
         return
     end = entry.addr + entry.len
     yield "eventfd-length", kind == EVENTFD and entry.op == WRITE and entry.len > 8 and theirs == [EINVAL]
+    yield "eventfd-length", kind == EVENTFD and entry.op == WRITE and entry.len == 0 and theirs == [0]
     yield "partial-buffer", ours == [EFAULT] and entry.addr < MEMORY < end and (not theirs or theirs[0] != EFAULT)
     yield "offset-sum", theirs == [EINVAL] and ours in ([0], [EFBIG]) and entry.off < SIGNED <= entry.off + entry.len
     yield "pipe-offset", kind in (PIPE, EVENTFD) and theirs == [EINVAL] and SIGNED <= entry.off < POSITION
@@ -125,18 +126,18 @@ def lacks_room(ours, theirs):
 # ---- What the whole script shows
 
 def full_eventfd(context, entry, ours, theirs):
-    """Whether a kernel lets a WRITE wait that completes here at once."""
-    return context.kind_of(entry.fd) == EVENTFD and entry.op == WRITE and not theirs and ours in ([8], [EINVAL])
+    """Whether a kernel lets a WRITE of 0 or of 2^64 - 1 wait that completes here at once."""
+    value = bytes(context.state.memory[entry.addr:entry.addr + 8])
+    return (context.kind_of(entry.fd) == EVENTFD and entry.op == WRITE and value in (bytes(8), b"\xff" * 8)
+            and not theirs and ours in ([8], [EINVAL]))
 
 
 def early_cancel(context, entry):
-    """Whether a cancel, or what it cancels, is submitted before the request that it is meant for."""
-    for cancel in context.entries:
-        if cancel.op not in REMOVALS:
-            continue
-        later = context.entries[context.entries.index(cancel) + 1:]
-        targets = [it for it in later if meets(cancel, it)]
-        if targets and (entry is cancel or entry in targets):
+    """Whether this is a cancel of a later request of its own submission, or such a request."""
+    for row in context.rows:
+        targets = [it.entry for it in context.rows
+                   if it.taken == row.taken and it.number > row.number and meets(row.entry, it.entry)]
+        if row.entry.op in REMOVALS and targets and entry in (row.entry, *targets):
             return True
     return False
 
@@ -158,8 +159,10 @@ def several_matches(context, entry):
 
 
 def after_worker(context, entry):
-    """Whether an earlier request on the same object may be carried out by a worker after this one."""
+    """Whether a worker may carry out an earlier WRITE to the same object after this READ or poll."""
     at = context.object_of(entry.fd)
+    if entry.op not in (READ, POLL):
+        return False
     earlier = context.entries[:context.entries.index(entry)]
     workers = [it for it in earlier if it.op == WRITE and context.kind_of(it.fd) in (FILE, EVENTFD)]
     return at is not None and any(context.object_of(it.fd) == at for it in workers)
@@ -190,9 +193,10 @@ def failed_fsync(context, entry):
                for row in rows for other in context.rows)
 
 
-def longer_drain(context, ours, theirs):
+def longer_drain(context, entry, ours, theirs):
     """Whether a kernel still holds a request that completed here, after a drain."""
-    return bool(ours) and not theirs and any(entry.flags & DRAIN for entry in context.entries)
+    earlier = context.entries[:context.entries.index(entry)]
+    return bool(ours) and not theirs and any(it.flags & DRAIN for it in earlier)
 
 
 def counts_more(context, entry, ours, theirs):
@@ -214,8 +218,8 @@ def name_of_completion(context, it):
                  ("early-cancel", early_cancel(context, entry)),
                  ("youngest-first", several_matches(context, entry)),
                  ("completion-clock", counts_more(context, entry, ours, theirs)),
-                 ("worker-order", ours and theirs and after_worker(context, entry)),
-                 ("longer-drain", longer_drain(context, ours, theirs))]
+                 ("worker-order", min([*ours, *theirs, 0]) == 0 and ours and theirs and after_worker(context, entry)),
+                 ("longer-drain", longer_drain(context, entry, ours, theirs))]
         for name, holds in items:
             if holds:
                 return name
@@ -261,7 +265,15 @@ def name_of_rest(context, it):
                 near = other.unit == row.unit or context.object_of(other.entry.fd) == context.object_of(entry.fd) is not None
                 if other is not row and near and other.entry.user_data in context.named:
                     return context.named[other.entry.user_data]
-    return stop_of_submission(context)
+    missing = not it.ours or not it.theirs
+    return stop_of_submission(context) if missing or after_failure(context, it) else ""
+
+
+def after_failure(context, it):
+    """Whether the completions belong to an entry after one that failed as it was submitted."""
+    failed = [row.entry for row in context.rows if context.failed(row)]
+    first = min((context.entries.index(entry) for entry in failed), default=len(context.entries))
+    return any(context.entries.index(entry) > first for entry in context.of_user(it.subject[1]))
 
 
 def name_of_bytes(context, it):

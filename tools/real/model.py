@@ -1,8 +1,8 @@
 """Runs of the model, as `log` prints them: the state after each event, and what a comparison needs of it."""
 import re
-import subprocess
 from dataclasses import dataclass
 
+import children
 import traces
 
 # How many words the name of a place has, by its first word.
@@ -169,7 +169,7 @@ class Program:
 
     def run(self, *words):
         """Runs the program, and returns what it prints; a fault is raised."""
-        ran = subprocess.run([self.path, *words], stdin=subprocess.DEVNULL, capture_output=True, text=True, check=False)
+        ran = children.run([self.path, *words])
         if ran.returncode:
             raise Fault(ran.stderr, ran.returncode)
         return ran.stdout
@@ -179,8 +179,7 @@ class Program:
         path = f"{self.room}/run.trace"
         with open(path, "wb") as it:
             it.write(setup.with_events(events))
-        words = [self.path, "log", path, "--from", str(start)]
-        ran = subprocess.run(words, stdin=subprocess.DEVNULL, capture_output=True, text=True, check=False)
+        ran = children.run([self.path, "log", path, "--from", str(start)])
         if ran.returncode and not REFUSED.match(ran.stderr):
             raise Fault(ran.stderr, ran.returncode)
         return changes_of(ran.stdout)

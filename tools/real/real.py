@@ -94,7 +94,7 @@ class Trial:
             self.setup, self.schedule = traces.read(it.read())
         check_setup(self.setup)
         check_schedule(self.schedule)
-        self.built = built or kernel.build(room)
+        self.built = built
         self.eager = self.eager_run()
         self.plan = plan.Plan(self.eager)
 
@@ -108,6 +108,7 @@ class Trial:
 
     def compared(self):
         """Runs it on the kernel. Returns the differences, and whether the completions are in the model's order."""
+        self.built = self.built or kernel.build(self.room)
         trace = self.setup.with_events(self.eager.events)
         outcome = kernel.run(self.built, trace, self.plan.text(), self.room)
         found = compare.differences(self.eager.state, outcome)
