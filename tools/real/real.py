@@ -28,7 +28,7 @@ USAGE = """Usage: uringwalk-real SCRIPT
 
 Runs the threads of a script on the io_uring of this machine, and compares what happens with the model. The run that it
 compares is the schedule's steps, takes and ticks, and after each all that a kernel can do by then. It needs python3 and cc,
-and no rights. It is not proved: it stands outside the program.
+and no rights. It is outside the proved program. In a clone it is ./uringwalk real SCRIPT.
 
 The first line is one of:
   same                             completions, results of calls, ring words, memory and files
