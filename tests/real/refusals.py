@@ -129,6 +129,7 @@ def of_words(it):
     yield "two words", it.run("a", "b"), (2, "", usage)
     yield "help", it.run("--help"), (0, usage, "")
     yield "a run", it.run(it.script()), (0, "same", "")
+    yield "20 seconds", it.run(it.script(threads=[[]], schedule=[["tick", 1]] * 801)), (4, "not settled", "")
     yield "an early end", it.run(it.script(schedule=STEPS)), (4, "not a kernel's schedule: event 3", "")
     for name, keys in (("a fault", {"entries": 0}), ("a refused event", {"schedule": [["issue", 0]]})):
         path = it.script(**keys)

@@ -61,11 +61,20 @@ class Eager:
 
     def acts(self, event):
         """Whether the kernel may have something to do after an event."""
-        if event.kind != "step":
+        if event.kind == "take":
+            return True
+        if not self.open_rows() and not self.has_entries():
+            return False
+        if event.kind == "tick":
             return True
         at, waits = self.next_of(event.number)
         program = self.setup.threads[event.number]
         return waits or at > len(program) or program[at - 1][0] in ACTING
+
+    def has_entries(self):
+        """Whether entries may be taken, once the pending steps are made."""
+        words = self.run.state.words
+        return words["sq.tail"] != words["sq.head"] or any(event.kind == "step" for _, event in self.pending[:-1])
 
     def flush(self):
         """Makes the pending events."""
