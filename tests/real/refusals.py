@@ -58,7 +58,8 @@ class Trials:
         return ran.returncode, *((text.splitlines() or [""])[0] for text in (ran.stdout, ran.stderr))
 
     def walks(self, path):
-        ran = subprocess.run([self.program, "walk", path], stdin=subprocess.DEVNULL, capture_output=True, text=True, check=False)
+        how = {"stdin": subprocess.DEVNULL, "capture_output": True, "text": True, "check": False}
+        ran = subprocess.run([self.program, "walk", path], **how)
         return ran.returncode, ran.stdout, ran.stderr.strip()
 
     def ends_on(self, number):

@@ -8,7 +8,7 @@ import children
 
 HERE = os.path.dirname(os.path.realpath(__file__))
 NO_RING, TOO_LONG = 3, 4
-ENOSYS, EPERM, ENOMEM = 38, 1, 12
+ENOSYS, EPERM = 38, 1
 SECONDS = 30
 
 

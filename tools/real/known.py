@@ -9,10 +9,9 @@ from traces import ENTER, EVENTFD, FILE, PIPE
 NOP, FSYNC, POLL, POLL_REMOVE, TIMEOUT, REMOVE, CANCEL, LINK_TIMEOUT, READ, WRITE = 0, 3, 6, 7, 11, 12, 14, 15, 22, 23
 TRANSFERS, REMOVALS = (READ, WRITE), (POLL_REMOVE, REMOVE, CANCEL)
 ENOENT, EINTR, EBADF, EFAULT, EBUSY, EINVAL, EFBIG, ETIME = -2, -4, -9, -14, -16, -22, -27, -62
-ENOBUFS, EOPNOTSUPP, EALREADY, ECANCELED = -105, -95, -114, -125
-DRAIN, LINKS, ASYNC = 2, 4 | 8, 16
-KNOWN_FLAGS, OTHER_FLAGS = 31 - 1, 1 | 32 | 64
-MEMORY, PAGE = 65536, 4096
+EALREADY, ECANCELED = -114, -125
+DRAIN, LINKS, OTHER_FLAGS = 2, 4 | 8, 1 | 32 | 64
+MEMORY = 65536
 POSITION, SIGNED = 2 ** 64 - 1, 2 ** 63
 MASK = 1 | 4 | 8 | 16
 
@@ -59,13 +58,9 @@ class Context:
 
 # ---- What one entry shows, by its fields and both results
 
-def is_submission_fault(entry, ours):
-    return ours == [EINVAL]
-
-
 def by_fields(entry, ours, theirs):
     """Yields the items about fields that the model refuses, and a kernel knows."""
-    if is_submission_fault(entry, ours) or not ours:
+    if ours in ([EINVAL], []):
         yield "entry-flags", entry.flags & OTHER_FLAGS
         yield "rw-flags", entry.op in TRANSFERS and entry.opflags
         yield "cancel-flags", entry.op == CANCEL and entry.opflags & ~3
@@ -180,10 +175,10 @@ def overtakes(context, entry, ours, theirs):
 
 def lost_counter(context, entry):
     """Whether an earlier READ of the same eventfd took its counter, and then met the end of the memory."""
+    at = context.object_of(entry.fd)
     earlier = context.entries[:context.entries.index(entry)]
-    return context.kind_of(entry.fd) == EVENTFD and any(
-        it.op == READ and context.object_of(it.fd) == context.object_of(entry.fd) and it.addr < MEMORY < it.addr + min(it.len, 8)
-        for it in earlier)
+    reads = [it for it in earlier if it.op == READ and context.object_of(it.fd) == at]
+    return context.kind_of(entry.fd) == EVENTFD and any(it.addr < MEMORY < it.addr + min(it.len, 8) for it in reads)
 
 
 def failed_fsync(context, entry):
@@ -201,8 +196,8 @@ def longer_drain(context, entry, ours, theirs):
 
 def counts_more(context, entry, ours, theirs):
     """Whether completions that a TIMEOUT counts on a kernel alone may have met it, or not."""
-    timers = [row for row in context.rows if row.entry.op == LINK_TIMEOUT or row.entry.op == TIMEOUT and row.result == ECANCELED]
-    return entry.op == TIMEOUT and 0 < entry.off and bool(timers) and 0 in (ours + theirs)
+    canceled = any(row.entry.op == TIMEOUT and row.result == ECANCELED for row in context.rows)
+    return entry.op == TIMEOUT and entry.off and 0 in (ours + theirs) and (canceled or context.has(LINK_TIMEOUT))
 
 
 def name_of_completion(context, it):

@@ -1,5 +1,6 @@
 """Runs of the model, as `log` prints them: the state after each event, and what a comparison needs of it."""
 import re
+import struct
 from dataclasses import dataclass
 
 import children
@@ -128,7 +129,7 @@ class State:
 
 def completion(raw):
     """Returns the user_data, the result and the flags of a completion."""
-    return int.from_bytes(raw[:8], "little"), int.from_bytes(raw[8:12], "little", signed=True), int.from_bytes(raw[12:], "little")
+    return struct.unpack("<QiI", raw)
 
 
 def put_bytes(into, where, new):
@@ -205,5 +206,6 @@ class Run:
     def moment(self):
         """Returns what is needed of the state after the newest event."""
         state = self.state
-        return {"clock": state.words["clock"], "produced": state.produced(), "tail": state.words["cq.tail"],
-                "next": list(state.next), "waits": list(state.waits), "waiting": state.words["sq.tail"] - state.words["sq.head"]}
+        words = state.words
+        return {"clock": words["clock"], "produced": state.produced(), "tail": words["cq.tail"],
+                "next": list(state.next), "waits": list(state.waits), "waiting": words["sq.tail"] - words["sq.head"]}

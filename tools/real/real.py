@@ -21,7 +21,7 @@ import traces  # noqa: E402
 
 SAME, WORDS, DIFFERS, OTHER_SCHEDULE, UNABLE = 0, 2, 3, 4, 69
 TRIES = 3
-PAGE, MOST_PIPE = 4096, 65536
+PAGE = 4096
 MINUTE = 60 * 10 ** 9
 LIMIT = 20 * 10 ** 9
 USAGE = """Usage: uringwalk-real SCRIPT

@@ -7,7 +7,6 @@ NUMBERS = {word: number for number, word in KINDS.items()}
 FILE, PIPE, EVENTFD = 1, 2, 3
 PUT, PUSH, STORE, ENTER, REAP, CLOSE = range(1, 7)
 EIO = 1 << 32
-SQPOLL = 1
 
 
 @dataclass(frozen=True)
