@@ -287,7 +287,8 @@ def name_of_bytes(context, it):
 def name_of_word(context, it):
     if it.subject[1] == "sq.head":
         return stop_of_submission(context)
-    names = {other.name for other in context.found if other.subject[0] == "completion"}
+    counted = [it for it in context.found if it.subject[0] == "completion" and len(it.ours) != len(it.theirs)]
+    names = {other.name for other in counted}
     calls = [other.name for other in context.found if other.subject[0] == "call"]
     return sorted(names)[0] if names and "" not in names else "".join(calls[:1])
 
