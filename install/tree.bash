@@ -48,8 +48,21 @@ make_tree() {
   while IFS= read -r file; do
     install -D -m 644 "$top/examples/$file" "$share/uringwalk/examples/$file" || return
   done < <(find "$top/examples" -type f -printf '%P\n')
+  make_real "$tree" || return
   { find "$tree" -type f -printf '%P\n' && echo "$list"; } | LC_ALL=C sort >"$tree.list" &&
     install -m 644 "$tree.list" "$tree/$list"
+}
+
+# Adds uringwalk-real, where the C compiler is there that it needs.
+make_real() {
+  local file
+  command -v cc >/dev/null 2>&1 || return 0
+  install -m 755 "$top/install/uringwalk-real" "$1/bin/uringwalk-real" &&
+    ln "$1/share/bash-completion/completions/uringwalk" "$1/share/bash-completion/completions/uringwalk-real" &&
+    ln "$1/share/fish/vendor_completions.d/uringwalk.fish" "$1/share/fish/vendor_completions.d/uringwalk-real.fish" || return
+  for file in "$top"/tools/real/*.py "$top/tools/real/kernel.c"; do
+    install -D -m 644 "$file" "$1/share/uringwalk/real/${file##*/}" || return
+  done
 }
 
 # Makes a folder for the script's own files. It is removed when the script ends, and so is what leftover names.

@@ -91,3 +91,13 @@ _uringwalk() {
         mapfile -t COMPREPLY < <(compgen -W "$_uringwalk_words --help --version" -- "$current")
     fi
 } && complete -F _uringwalk uringwalk
+
+# Completes the script that uringwalk-real takes.
+_uringwalk_real() {
+    COMPREPLY=()
+    if [[ $2 == -* ]]; then
+        mapfile -t COMPREPLY < <(compgen -W "--help" -- "$2")
+    elif [[ $COMP_CWORD -eq 1 ]]; then
+        _uringwalk_file script "$2"
+    fi
+} && complete -F _uringwalk_real uringwalk-real

@@ -46,3 +46,8 @@ complete -c uringwalk -n '__uringwalk_word_is live serve' -l kernel -x -d 'How m
 complete -c uringwalk -n '__uringwalk_word_is live' -l trace -r -F -d 'The trace to write'
 complete -c uringwalk -n '__uringwalk_word_is serve' -l port -x -d 'The port to listen on'
 complete -c uringwalk -n '__uringwalk_word_is serve' -l clients -x -d 'How many sessions to end after'
+
+# The script that uringwalk-real takes.
+complete -c uringwalk-real -f
+complete -c uringwalk-real -s h -l help -d 'Print the usage'
+complete -c uringwalk-real -k -a '(__fish_complete_suffix .json)'

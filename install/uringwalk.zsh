@@ -1,4 +1,4 @@
-#compdef uringwalk
+#compdef uringwalk uringwalk-real
 # zsh completion for uringwalk
 
 _uringwalk_words() {
@@ -73,4 +73,8 @@ _uringwalk() {
   esac
 }
 
-_uringwalk "$@"
+if [[ $service == uringwalk-real ]]; then
+  _arguments '(- *)'{-h,--help}'[print the usage]' '1:script:_files -g "*.json(-.)"'
+else
+  _uringwalk "$@"
+fi

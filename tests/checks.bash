@@ -56,7 +56,7 @@ absent() {
 # Copies what the scripts use of the repository, without what was built.
 copy_sources() {
   mkdir -p "$1" &&
-    tar -C "$top" -c --exclude=out --exclude=must-fail crates crates.txt docs examples install test uringwalk |
+    tar -C "$top" -c --exclude=out --exclude=must-fail --exclude=__pycache__ crates crates.txt docs examples install test tools uringwalk |
     tar -C "$1" -x
 }
 
