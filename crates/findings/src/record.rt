@@ -52,7 +52,11 @@ fn add_of_ended(
             kind: Kind::Ended(kind),
             subject: number,
         };
-        add_if(found, ended_test(kind, before, at.state, number, row), finding)?;
+        add_if(
+            found,
+            ended_test(kind, before, at.state, number, row),
+            finding,
+        )?;
     }
     Ok(())
 }
@@ -74,7 +78,11 @@ fn add_of_queued(
             kind: Kind::Queued(kind),
             subject: number,
         };
-        add_if(found, queued_test(kind, before, at.state, number, row), finding)?;
+        add_if(
+            found,
+            queued_test(kind, before, at.state, number, row),
+            finding,
+        )?;
     }
     Ok(())
 }

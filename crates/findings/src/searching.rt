@@ -143,12 +143,7 @@ impl Search {
 
     /// Returns the findings of a run of which the search has seen all events, given the state at
     /// the run's end.
-    pub fn finish(
-        self,
-        setup: &Setup,
-        events: &[Event],
-        state: &State,
-    ) -> Result<Found, AllocError>
+    pub fn finish(self, setup: &Setup, events: &[Event], state: &State) -> Result<Found, AllocError>
         requires at { IsAt setup.now events.now (length events.now) state.now }
         requires seen { HasSearched setup.now events.now (length events.now) self.found.items
             self.numbers.items self.watches.items }

@@ -5,8 +5,8 @@ ghost use Rattle.runs.specs.Moments.{IsAfter};
 ghost use Rattle.timeline.specs.Steps.{shown_line, IsStep, AreSteps};
 
 use crate::parts::StepPart;
-use run_log::{EventRange, change_lines, changes_of};
 use places::Record;
+use run_log::{EventRange, change_lines, changes_of};
 use runs::{Observed, Observer};
 use script::EventText;
 use std::alloc::{AllocError, Global};
