@@ -6,7 +6,9 @@ ghost use Rattle.machine.specs.Runs.{start, Accepts};
 ghost use Rattle.runs.specs.Moments.{IsAt};
 ghost use Rattle.occupancy.specs.Occupancies.{HasFollowed};
 ghost use Rattle.findings.specs.Searching.{HasSearched};
+ghost use Rattle.explanations.specs.ReportLists.{findings_in};
 ghost use Rattle.timeline.specs.Pictures.{IsSeen, fault_of, Stops};
+ghost use Rattle.timeline.specs.Steps.{AreSteps};
 
 use crate::parts::StepPart;
 use crate::steps::{Ranged, Steps};
