@@ -123,7 +123,7 @@ fn seen_of<K: StagesMoment + Ranged>(
         second: search,
     } = first;
     let followed = follower.finish(state)?;
-    let found = search.finish(alloc, setup, events, state)?;
+    let found = search.finish(setup, events, state)?;
     let findings = reports_of_found(alloc, setup, events, state, &found)?;
     Ok(Seen {
         followed,
