@@ -128,7 +128,7 @@ fn run_with_clients<L: Ledger + Send + Sync, R: Threads + Wait + Clock + Sync>(
         |scope| -> (Vec<Running<L, AlwaysOpen>>, Result<u32, RunFault>)
             requires { InOrder seats.items × All (λ s. s.receipts ≡ []) seats.items
                 × (vec_len handles ≡ 0) × (vec_len seats ≤ vec_capacity handles) }
-            ensures { HandlesInOrder result.0.items × AllOfTurns AlwaysOpen turns result.0.items
+            ensures { HandlesInOrder result.0.items × AllOfTurns (record {}) turns result.0.items
                 × IfErr result.1 (IsOf (OfMemory ∷ OfListening ∷ [])) }
         {
             start_with_clients(
@@ -164,7 +164,7 @@ fn start_with_clients<'s, E, L: Ledger + Send + Sync + 's, R: Threads + Wait + C
     requires none { vec_len handles ≡ 0 }
     requires room { vec_len seats ≤ vec_capacity handles }
     ensures order { HandlesInOrder result.0.items }
-    ensures turns { AllOfTurns AlwaysOpen turns result.0.items }
+    ensures turns { AllOfTurns (record {}) turns result.0.items }
     ensures other { IfErr result.1 (IsOf (OfMemory ∷ OfListening ∷ [])) }
 {
     let count = seats.len();

@@ -40,7 +40,8 @@ fn shown_line(alloc: Global, line: &[u8]) -> Result<String, AllocError>
     if line.len() <= LONGEST {
         return String::from_utf8_lossy(alloc, line);
     }
-    let front = String::from_utf8_lossy(alloc, &line[..LONGEST])?;
+    let (front, _) = line.split_at(LONGEST);
+    let front = String::from_utf8_lossy(alloc, front)?;
     format!(in alloc; "{front}..")
 }
 
