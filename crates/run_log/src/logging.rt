@@ -21,7 +21,7 @@ use whole_files::write_out;
 
 /// What holds where a log starts.
 pub trait LogStart {
-    // What the writer holds, where that is known, and which reference it is behind.
+    // The writer's contents, if they are known, and the name of the reference to it.
     ghost contents: { Option (List ℕ) };
 
     ghost name: { ℕ };
