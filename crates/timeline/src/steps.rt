@@ -1,5 +1,5 @@
 //! The events of a part of a run, with what each changed, collected as the run is stepped.
-ghost use Rattle.std.specs.Prelude.{◌≡◌, ℕ, [], map, string_bytes, IfOk};
+ghost use Rattle.std.specs.Prelude.{◌≡◌, ℕ, None, [], map, string_bytes, IfOk};
 ghost use Rattle.run_log.specs.declared.range.EventRange.{EventRange};
 ghost use Rattle.runs.specs.Moments.{IsAfter};
 ghost use Rattle.timeline.specs.Steps.{shown_line, IsStep, AreSteps};
