@@ -24,7 +24,7 @@ pub enum Picture {
     TraceEvents,
 }
 
-/// The events that are drawn: from one on, and below another, counted from 0.
+/// The range of events that are drawn, counted from 0. The event `to` isn't drawn.
 #[derive(Clone, Copy)]
 pub struct Window {
     pub from: Option<u32>,
