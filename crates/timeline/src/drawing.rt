@@ -113,8 +113,8 @@ fn draw_events(
     Ok(Drawing::Bytes(bytes_of(alloc, picture, drawn)?))
 }
 
-/// Draws the run of a trace if the first byte is a `U`, and otherwise of a script. The picture shows
-/// the run's name.
+/// Draws the run of a trace if the first byte is a `U`, otherwise of a script. The picture has the
+/// run's name.
 pub fn draw_run(
     alloc: Global,
     name: &str,
