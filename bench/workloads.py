@@ -18,7 +18,7 @@ def entry(opcode, flags=0, fd=0, off=0, addr=0, length=0, operation_flags=0, use
 
 
 class Trace:
-    """A setup and its events. Threads do instructions one after the other: where one's program is full, the next goes on."""
+    """A setup and its events. Threads do instructions one after the other: where one's program is full, the next continues."""
 
     def __init__(self, entries, cq, sqpoll=False):
         self.entries, self.cq, self.sqpoll = entries, cq, sqpoll
@@ -44,7 +44,7 @@ class Trace:
     # What threads do.
 
     def room(self, instructions):
-        """So many instructions stand in one program."""
+        """Makes room for a number of instructions in one program."""
         if len(self.programs[-1]) + instructions > PROGRAM:
             self.programs.append([])
 
@@ -93,7 +93,7 @@ class Trace:
         self.event(7, 0, nanoseconds)
 
     def round(self, rows):
-        """So many rows more, submitted by the events up to here."""
+        """Counts rows that the events up to here have submitted."""
         self.rows += rows
         self.rounds.append((len(self.events), self.rows))
 
@@ -134,8 +134,8 @@ def nops(events):
 
 
 def chains(events):
-    """Chains of 64 that are cut in the middle: rows 0 to 31 are NOPs and end one after the other, row 32 reads from a
-    descriptor that isn't open, so it fails as it is issued and severs the 31 behind it."""
+    """Chains of 64 that are cut in the middle: rows 0 to 31 are NOPs and complete one after the other. Row 32 reads from a
+    descriptor that isn't open, so it fails as it is issued and severs the 31 rows after it."""
     trace = Trace(64, 128)
     trace.put([entry(NOP, IO_LINK), entry(READ, IO_LINK, fd=3, length=1), entry(NOP)])
     while len(trace.events) < events:
@@ -151,7 +151,7 @@ def chains(events):
 
 
 def rows(count):
-    """So many rows, taken in batches of 4,096 by the poller; one in sixty ends, the others wait."""
+    """A number of rows, taken in batches of 4,096 by the poller; one in sixty completes, the others wait."""
     trace = Trace(4096, 8192, sqpoll=True)
     trace.put([entry(NOP)])
     while trace.rows < count:
@@ -184,7 +184,7 @@ def transfers(events):
 
 
 def reads(count):
-    """So many READs of a page of a file, each with a user_data of its own, taken at once and issued; none ends."""
+    """A number of READs of a page of a file, each with its own user_data, taken at once and issued; none completes."""
     trace = Trace(4096, 8192)
     descriptor = trace.file(b"f", bytes(range(256)) * (PAGE // 256))
     for batch in range(0, count, 4096):
@@ -200,9 +200,9 @@ def reads(count):
 
 
 def mixed(events):
-    """Files, pipes, links, guards, timeouts and cancels, eleven rows a round."""
+    """Files, pipes, links, linked timeouts, timeouts and cancels, eleven rows a round."""
     trace = Trace(16, 32)
-    clock = 4 * PAGE  # where a second stands in memory, as seconds and nanoseconds
+    clock = 4 * PAGE  # the address of a time of one second: seconds and nanoseconds
     trace.memory = bytes(clock) + struct.pack("<qq", 1, 0)
     file = trace.file(b"f", b"\1" * PAGE + b"\2" * PAGE + bytes(PAGE))
     read_end, write_end = trace.pipe(b"p", PAGE)
@@ -228,7 +228,7 @@ def mixed(events):
         first = trace.rows
         for row in range(4):  # a page of the file through the pipe, and back to another page
             trace.end(first + row)
-        trace.issue(first + 4)  # waits for the pipe, and its guard for a second
+        trace.issue(first + 4)  # waits for the pipe, and its linked timeout for a second
         trace.issue(first + 6)  # waits for the pipe, until the next row cancels it
         trace.end(first + 7)
         trace.issue(first + 8)  # waits for one completion: that of the next row
@@ -244,7 +244,7 @@ def mixed(events):
 
 
 def cut(trace, events):
-    """The first so many events alone."""
+    """Keeps a number of events from the start, and drops the others."""
     trace.events = trace.events[:events]
     return trace
 
@@ -261,7 +261,7 @@ def jumps(moments, count):
 
 
 def stops(moments, count, number_of_rows):
-    """For so many rows, spread evenly: from the start on to the row's first change, and from the end back to its last."""
+    """For a number of rows, spread evenly: from the start on to the row's first change, and from the end back to its last."""
     lines, wanted = [], []
     for turn in range(1, count + 1):
         row = turn * number_of_rows // (count + 1)
@@ -276,6 +276,6 @@ WORKLOADS = {
     "chains": ("chains of 64, cut in the middle", chains),
     "rows": ("rows, one in sixty of which ends", rows),
     "transfers": ("4,096-byte transfers, file and pipe", transfers),
-    "reads": ("4,096 READs that don't end", lambda events: reads(4096)),
-    "mixed": ("mixed: files, pipes, links, guards, timeouts, cancels", mixed),
+    "reads": ("4,096 READs that don't complete", lambda events: reads(4096)),
+    "mixed": ("mixed: files, pipes, links, linked timeouts, timeouts, cancels", mixed),
 }

@@ -124,31 +124,31 @@ make_folder() {
   attempt mkdir -m 755 -- "$1"
 }
 
-# Makes an empty file beside a place. Its name begins with the install's mark, by which undo finds it.
-make_beside() {
+# Makes an empty file next to a place. Its name begins with the install's mark, by which undo finds it.
+make_next_to() {
   attempt mktemp -- "${1%/*}/$mark.XXXXXX" && return
   why="${1%/*}: ${why##*: }"
   return 1
 }
 
-# Copies a file beside its place.
+# Copies a file next to its place.
 stage() {
   local place=$prefix/$2
   make_folder "${place%/*}" || return
   why="$place is a folder"
   [ ! -d "$place" ] || [ -L "$place" ] || return
-  make_beside "$place" || return
+  make_next_to "$place" || return
   staged[$2]=$why
   attempt cp --preserve=mode -- "$1" "$why"
 }
 
-# Copies what is in a place beside it, if there is something, so that it can be put back.
+# Copies what is in a place next to it, if there is something, so that it can be put back.
 keep() {
-  local place=$prefix/$1 beside
+  local place=$prefix/$1 copy
   [ -e "$place" ] || [ -L "$place" ] || return 0
-  make_beside "$place" || return
-  beside=$why
-  attempt cp -aT --remove-destination -- "$place" "$beside" && kept[$1]=$beside
+  make_next_to "$place" || return
+  copy=$why
+  attempt cp -aT --remove-destination -- "$place" "$copy" && kept[$1]=$copy
 }
 
 # Moves a staged file into its place.
@@ -191,7 +191,7 @@ place_all() {
   move_in "$list"
 }
 
-# Removes what the install made beside the places.
+# Removes what the install made next to the places.
 remove_marked() {
   local file folder
   for file in "${files[@]}" "${old_files[@]}" "$list"; do

@@ -14,7 +14,7 @@ from room import Wrong, note_of, numbers_of, require
 from situations import SCRIPTS
 from sums import beginnings, seat_sum
 
-# The sum of a state is of at least so many places.
+# The least number of places that the sum of a state covers.
 LEAST_PLACES = 65536
 # Each allocation up to this one also fails together with all later ones.
 MOST_OF_ALL = 10

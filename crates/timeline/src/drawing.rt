@@ -24,7 +24,7 @@ pub enum Picture {
     TraceEvents,
 }
 
-/// The events that are drawn: from one on, and below another, counted from 0.
+/// The range of events that are drawn, counted from 0. The event `to` isn't drawn.
 #[derive(Clone, Copy)]
 pub struct Window {
     pub from: Option<u32>,
@@ -113,8 +113,8 @@ fn draw_events(
     Ok(Drawing::Bytes(bytes_of(alloc, picture, drawn)?))
 }
 
-/// Draws the run of a trace if the first byte is a `U`, and otherwise of a script. The picture shows
-/// the run's name.
+/// Draws the run of a trace if the first byte is a `U`, otherwise of a script. The picture has the
+/// run's name.
 pub fn draw_run(
     alloc: Global,
     name: &str,

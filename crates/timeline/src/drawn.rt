@@ -1,10 +1,10 @@
-//! What is drawn.
+//! The input of a picture.
 
 use crate::observing::Seen;
 use machine::Setup;
 use run_log::EventRange;
 
-/// A run, the range of it that is drawn, and all that is shown of it.
+/// A run, the range of its events that is drawn, and what was collected as it was stepped.
 #[derive(Clone, Copy)]
 pub(crate) struct Drawn<'a> {
     pub name: &'a str,

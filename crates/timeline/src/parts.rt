@@ -12,7 +12,7 @@ pub struct StepPart {
     pub changes: Vec<String>,
 }
 
-/// A row: what it asks for, when it was queued, issued and ended, and with which result.
+/// A row: its request, when it was queued, issued and completed, and its result.
 #[derive(Drop, Serialize)]
 pub struct RowPart {
     pub row: u32,
@@ -26,7 +26,7 @@ pub struct RowPart {
     pub user: String,
     /// The first row of its chain.
     pub unit: u32,
-    /// The row that it limits, of a linked timeout.
+    /// If it is a linked timeout, the row that it limits.
     pub target: Option<u32>,
     pub queued: u32,
     pub issued: Option<u32>,
@@ -38,23 +38,23 @@ pub struct RowPart {
 #[derive(Drop, Serialize)]
 pub struct FillingPart(pub u32, pub u32, pub u32, pub String);
 
-/// What the run shows at a moment.
+/// A finding, as a page shows it.
 #[derive(Drop, Serialize)]
 pub struct FindingPart {
     pub moment: u32,
     pub kind: &'static str,
-    /// Whether it is a fault, and no note.
+    /// Whether it is a fault rather than a note.
     pub fault: bool,
     pub text: String,
 }
 
-/// All that a page shows.
+/// The data of a page.
 #[derive(Drop, Serialize)]
 pub struct PagePart<'a> {
     pub run: &'a str,
     /// The first event that is shown.
     pub from: u32,
-    /// The end: one more than the last.
+    /// One more than the last event that is shown.
     pub to: u32,
     pub events: u32,
     /// The sizes of the rings.
@@ -66,7 +66,7 @@ pub struct PagePart<'a> {
     /// Each thread's instructions.
     pub programs: Vec<Vec<String>>,
     pub steps: &'a [StepPart],
-    /// From the moment before the first event to the moment after the last.
+    /// One per moment, from before the first event to after the last.
     pub fillings: Vec<FillingPart>,
     pub rows: Vec<RowPart>,
     pub findings: Vec<FindingPart>,

@@ -1,4 +1,4 @@
-//! What a followed run gives its pictures.
+//! Builds the data of a page, and the bytes of a trace event file, from a run that was stepped.
 
 use crate::drawn::Drawn;
 use crate::marks::finding_parts;
@@ -15,7 +15,7 @@ use run_log::EventRange;
 use scenario::completion_entries;
 use std::alloc::{AllocError, Global};
 
-// How many events a run has.
+// Returns how many events a run has.
 fn event_count(occupancy: &Occupancy) -> u32 {
     occupancy
         .fillings
@@ -56,7 +56,7 @@ fn row_parts(
     Ok(parts)
 }
 
-// How full it is at the moments of a range.
+// Returns how full the queues are at the moments of a range.
 fn fillings_in(occupancy: &Occupancy, from: u32, to: u32) -> &[Filling] {
     let fillings = occupancy.fillings.as_slice();
     let end = fillings.len().min(to as usize + 1);
@@ -90,7 +90,7 @@ fn stage_texts(alloc: Global, thread_stages: &ThreadStages) -> Result<Vec<String
     Ok(texts)
 }
 
-// Whether the poller is awake, if there is one.
+// Returns whether the poller is awake, as `show` prints it, if there is one.
 fn poller_text(alloc: Global, thread_stages: &ThreadStages) -> Result<Option<String>, AllocError> {
     match thread_stages.awake {
         Some(awake) => {
@@ -127,7 +127,7 @@ pub(crate) fn page_part<'a>(alloc: Global, drawn: Drawn<'a>) -> Result<PagePart<
     })
 }
 
-// The event that led to a moment, if it is among those whose tracks are given.
+// Returns the slice of the event before a moment, if `tracks` has that event.
 fn slice_before(tracks: &[u32], from: u32, moment: Option<u32>) -> Option<Slice> {
     let event = moment?.checked_sub(1)?;
     let index = event.checked_sub(from)? as usize;
@@ -154,7 +154,7 @@ fn linked_before(parts: &[RowPart], index: usize) -> Option<usize> {
     }
 }
 
-// Adds the link of a row to the one before it.
+// Adds the flow from a row to the one that is linked to it.
 fn add_link_to(
     alloc: Global,
     out: &mut Vec<u8>,
@@ -171,7 +171,7 @@ fn add_link_to(
     }
 }
 
-// Adds the links between rows.
+// Adds the flows between linked rows.
 fn add_links(
     alloc: Global,
     out: &mut Vec<u8>,
@@ -189,7 +189,7 @@ fn add_links(
     Ok(())
 }
 
-// The clock at a moment of a range.
+// Returns the clock at a moment of a range, in nanoseconds.
 fn clock_at(fillings: &[Filling], index: usize) -> u64 {
     match fillings.get(index) {
         Some(filling) => filling.clock,
@@ -197,7 +197,7 @@ fn clock_at(fillings: &[Filling], index: usize) -> u64 {
     }
 }
 
-// Adds the events of a run as slices, and gives their tracks.
+// Adds the events of a run as slices, and returns their tracks.
 fn add_slices(
     alloc: Global,
     out: &mut Vec<u8>,
@@ -215,7 +215,7 @@ fn add_slices(
     Ok(tracks)
 }
 
-// Adds how full it is at the moments of a range.
+// Adds how full the queues are at the moments of a range, as counters.
 fn add_fillings(
     alloc: Global,
     out: &mut Vec<u8>,
@@ -230,7 +230,7 @@ fn add_fillings(
     Ok(())
 }
 
-// Adds what the run shows.
+// Adds the findings.
 fn add_findings(alloc: Global, out: &mut Vec<u8>, parts: &[FindingPart]) -> Result<(), AllocError> {
     for part in parts {
         add_finding(alloc, out, part)?;
@@ -251,7 +251,7 @@ fn add_rows(
     Ok(())
 }
 
-/// The trace events of a run.
+/// Returns the bytes of a trace event file of a run.
 pub(crate) fn trace_file(alloc: Global, drawn: Drawn<'_>) -> Result<Vec<u8>, AllocError> {
     let followed = &drawn.seen.followed;
     let occupancy = &followed.occupancy;

@@ -24,7 +24,7 @@ fn text(alloc: Global, number: u64) -> Result<String, AllocError> {
     format!(in alloc; "{number}")
 }
 
-/// A row with its number and its moments.
+/// Returns a row with its number and its moments.
 pub(crate) fn row_part(
     alloc: Global,
     number: u32,
@@ -56,7 +56,7 @@ fn put_text(alloc: Global, slot: u32, entry: &Sqe) -> Result<String, AllocError>
     format!(in alloc; "put {slot} {name} user_data {user}")
 }
 
-// An instruction in the words of a script, without bytes.
+// Returns an instruction in the words of a script, without bytes.
 fn instruction_text(alloc: Global, instruction: &Instruction) -> Result<String, AllocError> {
     match instruction {
         Instruction::Put(slot, entry) => put_text(alloc, *slot, entry),
@@ -75,7 +75,7 @@ fn instruction_text(alloc: Global, instruction: &Instruction) -> Result<String, 
     }
 }
 
-/// A thread's program.
+/// Returns the instructions of a thread's program as texts.
 pub(crate) fn program_part(
     alloc: Global,
     program: &[Instruction],

@@ -5,19 +5,19 @@ use occupancy::Filling;
 use serde::Serialize;
 use std::alloc::{AllocError, Global};
 
-/// The track of the poller. Threads have those from 1 on.
+/// The track of the poller. Thread T has track T + 1.
 const POLLER: u32 = 17;
 
-/// The track of what the kernel does to rows.
+/// The track of the kernel's events: issue, finish, expire.
 const KERNEL: u32 = 18;
 
 /// The track of the clock.
 const CLOCK: u32 = 19;
 
-/// The track of what the run shows.
+/// The track of the findings.
 const FINDINGS: u32 = 20;
 
-/// A place in the run: a track, and a moment.
+/// A slice, by its track and its moment.
 #[derive(Clone, Copy)]
 pub(crate) struct Slice {
     pub track: u32,
@@ -26,7 +26,7 @@ pub(crate) struct Slice {
 
 type Added = Result<(), AllocError>;
 
-// A value as JSON.
+// Returns a value as JSON.
 fn json<T: Serialize>(alloc: Global, value: &T) -> Result<String, AllocError> {
     match serde_json::to_string(alloc, value) {
         Ok(text) => Ok(text),
@@ -34,7 +34,7 @@ fn json<T: Serialize>(alloc: Global, value: &T) -> Result<String, AllocError> {
     }
 }
 
-// Appends an event of the format, by its members.
+// Appends an event of the format with these members.
 fn add(out: &mut Vec<u8>, members: &str) -> Added {
     out.extend_from_slice(b",\n{\"pid\":1,")?;
     out.extend_from_slice(members.as_bytes())?;
@@ -54,8 +54,8 @@ fn add_thread(alloc: Global, out: &mut Vec<u8>, thread: u32) -> Added {
     add_track(alloc, out, thread.saturating_add(1), name.as_str())
 }
 
-/// Begins a file: the name of the run, and of the tracks of its threads and of the poller if it has
-/// one.
+/// Begins a file with the names of the run and of its tracks: those of its threads, and of the
+/// poller if it has one.
 pub(crate) fn begin(
     alloc: Global,
     out: &mut Vec<u8>,
@@ -86,7 +86,7 @@ pub(crate) fn end(out: &mut Vec<u8>) -> Added {
     out.extend_from_slice(b"\n]}\n")
 }
 
-// The track of a thread, by its number in an event.
+// Returns the track of a thread, by its number in an event.
 fn track_of_thread(number: &str) -> u32 {
     match number.parse::<u32>() {
         Ok(thread) => thread.min(15) + 1,
@@ -94,7 +94,7 @@ fn track_of_thread(number: &str) -> u32 {
     }
 }
 
-// The track of an event, by its words.
+// Returns the track of an event, by its words.
 fn track_of(words: &str) -> u32 {
     let Some((word, number)) = words.split_once(' ') else {
         return POLLER;
@@ -107,7 +107,7 @@ fn track_of(words: &str) -> u32 {
     }
 }
 
-/// Adds an event of the run, as a slice from its moment to the next, and says on which track.
+/// Adds an event of the run as a slice from its moment to the next, and returns its track.
 pub(crate) fn add_slice(
     alloc: Global,
     out: &mut Vec<u8>,
@@ -125,7 +125,7 @@ pub(crate) fn add_slice(
     Ok(track)
 }
 
-/// Adds what the run shows at a moment, as an instant.
+/// Adds a finding, as an instant at its moment.
 pub(crate) fn add_finding(alloc: Global, out: &mut Vec<u8>, part: &FindingPart) -> Added {
     let FindingPart {
         moment,
@@ -140,7 +140,7 @@ pub(crate) fn add_finding(alloc: Global, out: &mut Vec<u8>, part: &FindingPart) 
     add(out, members.as_str())
 }
 
-// Adds how many of some things wait at a moment, as a counter.
+// Adds the length of a queue at a moment, as a counter.
 fn add_counter(alloc: Global, out: &mut Vec<u8>, name: &str, moment: u32, waiting: u32) -> Added {
     let members = format!(in alloc;
         "\"ph\":\"C\",\"name\":\"{name}\",\"ts\":{moment},\"args\":{{\"waiting\":{waiting}}}"
@@ -160,7 +160,7 @@ pub(crate) fn add_filling(
     add_counter(alloc, out, "backlog", moment, filling.kept)
 }
 
-// Adds an end of an asynchronous slice of a row, with its arguments.
+// Adds the beginning or the end of an asynchronous slice of a row, with its arguments.
 fn add_end(
     alloc: Global,
     out: &mut Vec<u8>,
@@ -176,7 +176,7 @@ fn add_end(
     add(out, members.as_str())
 }
 
-// Adds how long a row was in a phase, which has ended by another moment if there is one.
+// Adds a phase of a row as a slice, which ends at `to` if that is given.
 fn add_phase(
     alloc: Global,
     out: &mut Vec<u8>,
@@ -192,7 +192,7 @@ fn add_phase(
     }
 }
 
-// What a row asks for.
+// Returns the request of a row, as JSON members.
 fn request_text(alloc: Global, part: &RowPart) -> Result<String, AllocError> {
     let user = part.user.as_str();
     let chain = part.unit;
@@ -206,7 +206,7 @@ fn request_text(alloc: Global, part: &RowPart) -> Result<String, AllocError> {
     )
 }
 
-// Returns a moment, if it isn't after another.
+// Returns a moment, if it isn't after the last one.
 fn up_to(last: u32, moment: Option<u32>) -> Option<u32> {
     match moment {
         Some(moment) if moment <= last => Some(moment),
@@ -214,15 +214,15 @@ fn up_to(last: u32, moment: Option<u32>) -> Option<u32> {
     }
 }
 
-// Adds the end of a row.
+// Adds the end of a row's slice, with its result.
 fn add_row_end(alloc: Global, out: &mut Vec<u8>, part: &RowPart, name: &str, moment: u32) -> Added {
     let result = part.result.unwrap_or(0);
     let arguments = format!(in alloc; "\"result\":{result}")?;
     add_end(alloc, out, "e", name, part.row, moment, arguments.as_str())
 }
 
-/// Adds a row as an asynchronous slice, and within it how long it was queued and issued. What comes
-/// after the last moment is left out.
+/// Adds a row as an asynchronous slice, and within it how long it was queued and issued. Leaves out
+/// what is after the last moment.
 pub(crate) fn add_row(alloc: Global, out: &mut Vec<u8>, part: &RowPart, last: u32) -> Added {
     let row = part.row;
     let operation = part.name;
@@ -249,8 +249,7 @@ pub(crate) fn add_row(alloc: Global, out: &mut Vec<u8>, part: &RowPart, last: u3
     }
 }
 
-/// Adds the flow from the event that completed a row to the next event of the row after it in its
-/// chain.
+/// Adds a flow from the event that completed a row to the next event of the row linked to it.
 pub(crate) fn add_link(
     alloc: Global,
     out: &mut Vec<u8>,

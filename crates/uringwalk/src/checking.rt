@@ -1,4 +1,4 @@
-//! What is wrong with the script that a file holds.
+//! The `check` subcommand: the faults of a script.
 
 use crate::reporting::fault_of_report;
 use crate::{SCRIPT_AND_ONE, file_fault};
@@ -9,8 +9,8 @@ use std::process::ExitCode;
 use std::rt::Files;
 use whole_files::read_file;
 
-/// Writes what is wrong with the script in a file to standard output, or `ok`. The status is 1
-/// where something is, and else 0.
+/// Prints the faults of a script, or `ok` if it has none. Returns exit status 1 if it has some,
+/// otherwise 0.
 pub fn check_file(rt: &(impl Files + Print + AllocGlobal), path: &str) -> Result<ExitCode, Fault> {
     let text = read_file(rt, path, SCRIPT_AND_ONE).map_err(file_fault)?;
     match check_script(rt.alloc(), path, &text, &mut io::writer(rt)) {

@@ -1,4 +1,4 @@
-//! A picture of the run that a file holds, in a file.
+//! The `timeline` subcommand: draws a run into a file.
 
 use crate::reporting::fault_of_report;
 use crate::{WHOLE_TRACE_AND_ONE, fail, file_fault};
@@ -8,7 +8,7 @@ use std::rt::Files;
 use timeline::{Drawing, Window, draw_run, picture_of};
 use whole_files::{lead_to_one_file, read_file, write_file};
 
-/// The status of words that can't be followed.
+/// The exit status if the command line is wrong.
 const WORDS: u8 = 2;
 
 /// The message if OUT is another path of the run's file.
@@ -25,7 +25,7 @@ fn refuse_long(rt: &impl Eprint, events: u32) -> ExitCode {
     }
 }
 
-// Writes a picture to its file.
+// Writes a picture to its file, and returns the exit status.
 fn keep_page(rt: &(impl Files + AllocGlobal), out: &str, page: &[u8]) -> Result<ExitCode, Fault> {
     match write_file(rt, out, page) {
         Ok(()) => Ok(ExitCode::SUCCESS),
@@ -33,8 +33,8 @@ fn keep_page(rt: &(impl Files + AllocGlobal), out: &str, page: &[u8]) -> Result<
     }
 }
 
-/// Draws the events in the window, of the script or the trace in a file, and writes the picture to
-/// another. It gives the status that the program ends with.
+/// Draws the events in a window of the run of a script or a trace, and writes the picture to a
+/// file. Returns the exit status.
 pub fn draw_file(
     rt: &(impl Files + Eprint + AllocGlobal),
     run: &str,

@@ -1,4 +1,4 @@
-//! What the run shows that a file holds.
+//! The `explain` subcommand: the findings of a run.
 
 use crate::reporting::fault_of_report;
 use crate::{WHOLE_TRACE_AND_ONE, file_fault};
@@ -10,11 +10,11 @@ use std::process::ExitCode;
 use std::rt::Files;
 use whole_files::read_file;
 
-/// The status where some finding is a fault.
+/// The exit status if some finding is a fault.
 const SOME_FAULTS: u8 = 3;
 
-/// Writes what the run shows of the script or the trace in a file, of one kind alone or of all, to
-/// standard output. The status is 3 where some of it is a fault, and else 0.
+/// Prints the findings in the run of a script or a trace: those of one kind, or all. Returns exit
+/// status 3 if some listed finding is a fault, otherwise 0.
 pub fn explain_file(
     rt: &(impl Files + Print + AllocGlobal),
     path: &str,

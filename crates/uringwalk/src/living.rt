@@ -1,4 +1,4 @@
-//! Runs that threads make together.
+//! The `live` subcommand: runs a script's threads side by side, then answers commands.
 ghost use Rattle.std.specs.Prelude.{◌≤◌};
 
 use crate::{SCRIPT_AND_ONE, file_fault};
@@ -34,8 +34,8 @@ fn print_run(rt: &impl Print, closed: &Closed) -> Result<(), Fault> {
     }
 }
 
-// Writes a run's trace to its file if there is one, prints how many events there were, and replies
-// to the lines of standard input over them.
+// Writes a run's trace to its file if there is one, prints how many events the run has, and answers
+// the commands of standard input.
 fn answer_run(
     rt: &(impl Files + Input + Print + AllocGlobal),
     out: Option<&str>,
@@ -47,8 +47,8 @@ fn answer_run(
     Ok(())
 }
 
-/// Runs threads over a script's setup, writes the trace to its file if there is one, prints how
-/// many events there were, and replies to the lines of standard input over them.
+/// Runs the threads of a script, writes the run's trace to its file if there is one, prints how
+/// many events the run has, and answers the commands of standard input.
 pub fn live_file<R: Files + Input + Print + AllocGlobal + Threads + Wait + Clock + Sync>(
     rt: &R,
     script: &str,

@@ -1,4 +1,4 @@
-//! The log of a run that a file holds.
+//! The `log` subcommand: each event of a run and what it changed.
 
 use crate::reporting::fault_of_report;
 use crate::{WHOLE_TRACE_AND_ONE, file_fault};
@@ -8,8 +8,7 @@ use std::io;
 use std::rt::Files;
 use whole_files::read_file;
 
-/// Writes what the events in the range changed, of the script or the trace in a file, to standard
-/// output.
+/// Prints the events in a range, and what each changed, in the run of a script or a trace.
 pub fn log_file(
     rt: &(impl Files + Print + AllocGlobal),
     path: &str,

@@ -1,4 +1,4 @@
-//! The program: one job, over the libraries.
+//! The program `uringwalk`: reads its command line, and runs one subcommand.
 #![tactic(auto)]
 
 ghost use Rattle.std.specs.Prelude.{◌≡◌};
@@ -34,7 +34,7 @@ use std::{env, fmt, io};
 use timeline::Window;
 use whole_files::{FileFault, lead_to_one_file, read_file, write_file};
 
-/// One byte more than a script may have: what follows is not read.
+/// One byte more than a script may have. The bytes after it are not read.
 const SCRIPT_AND_ONE: u64 = 8388609;
 
 /// One byte more than a trace of the first form may have.
@@ -48,14 +48,14 @@ const WHOLE_TRACE_AND_ONE: u64 = 287966118;
 const ONTO_SCRIPT: &str =
     "error: OUT leads to SCRIPT's own file: the trace would overwrite the script";
 
-/// What a session is opened over.
+/// The kind of file that a session reads.
 #[derive(Clone, Copy)]
 enum Over {
     Script,
     Trace,
 }
 
-// Returns the fault that is reported for a file.
+// Returns the program's fault for a file that can't be read or written.
 fn file_fault(fault: FileFault) -> Fault
     ensures { result ≡ fault_as fault }
 {
@@ -65,7 +65,7 @@ fn file_fault(fault: FileFault) -> Fault
     }
 }
 
-// A session over a file, from standard input to standard output.
+// Runs the session of a script or a trace: answers the commands of standard input.
 fn answer_over(
     rt: &(impl Files + Input + Print + AllocGlobal),
     over: Over,
@@ -94,7 +94,7 @@ fn keep(rt: &(impl Files + Print + AllocGlobal), out: &str, trace: &Traced) -> R
     }
 }
 
-// The trace of a script's schedule, in a file.
+// The `trace` subcommand: runs a script's schedule, and writes the trace to a file.
 fn trace_file(
     rt: &(impl Files + Print + AllocGlobal),
     script: &str,
@@ -105,7 +105,7 @@ fn trace_file(
     keep(rt, out, &trace_script(rt.alloc(), &text, form)?)
 }
 
-// Writes the events of a trace of the first form, after a script's setup, to a file.
+// The `migrate` subcommand: writes a script's setup and the events of a trace of form 1 to a file.
 fn migrate_file(
     rt: &(impl Files + Print + AllocGlobal),
     script: &str,
@@ -117,7 +117,7 @@ fn migrate_file(
     keep(rt, out, &migrate_trace(rt.alloc(), &text, &bytes)?)
 }
 
-// What a job that went to its end ends the program with.
+// Returns exit status 0 for a job that succeeded, otherwise its fault.
 fn done(ended: Result<(), Fault>) -> Result<ExitCode, Fault> {
     match ended {
         Ok(()) => Ok(ExitCode::SUCCESS),
@@ -125,7 +125,7 @@ fn done(ended: Result<(), Fault>) -> Result<ExitCode, Fault> {
     }
 }
 
-// Does a job, and gives the status that the program ends with.
+// Runs a subcommand, and returns the exit status.
 fn run<
     R: Files
         + Input
@@ -165,7 +165,7 @@ fn run<
     }
 }
 
-// Whether a trace would take the place of its script, which another path names.
+// Returns whether a trace would overwrite its script, although their paths differ.
 fn loses_script(rt: &(impl Files + AllocGlobal), job: Job<'_>) -> Result<bool, Fault> {
     match job {
         Job::Trace { script, out, .. } | Job::Migrate { script, out, .. } => {
@@ -187,14 +187,14 @@ fn loses_script(rt: &(impl Files + AllocGlobal), job: Job<'_>) -> Result<bool, F
     }
 }
 
-// Ends with a status, and a line on standard error if it can be written.
+// Returns an exit status, and prints a line on standard error if it can be written.
 fn fail<T: fmt::Display>(rt: &impl Eprint, status: u8, line: &T) -> ExitCode {
     match eprintln!(rt; "{line}") {
         Ok(()) | Err(_) => ExitCode::from(status),
     }
 }
 
-// Reports that memory ran out.
+// Reports that the program is out of memory.
 fn fail_for_memory(rt: &impl Eprint) -> ExitCode {
     fail(rt, 1, &Fault::Run(RunFault::Memory))
 }
@@ -207,7 +207,7 @@ fn print_version(rt: &(impl Print + Eprint), version: &clap::Error) -> ExitCode 
     }
 }
 
-// Does what the words ask for, unless it would lose a script.
+// Runs a subcommand, unless it would overwrite a script.
 fn carry_out<
     R: Files
         + Input
@@ -232,7 +232,7 @@ fn carry_out<
     }
 }
 
-// Reads the words, and does what they ask for.
+// Parses the command line, and runs its subcommand.
 fn read_words<
     R: Files
         + Input
@@ -253,7 +253,7 @@ fn read_words<
     }
 }
 
-// The same of words that the program owns.
+// Does the same with words that are owned strings.
 fn read_texts<
     R: Files
         + Input

@@ -1,4 +1,4 @@
-//! The faults of reports.
+//! The faults of the subcommands that report on a run.
 ghost use Rattle.std.specs.Prelude.{◌≡◌};
 ghost use Rattle.uringwalk.specs.Reporting.{fault_as};
 

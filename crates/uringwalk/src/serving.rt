@@ -1,4 +1,4 @@
-//! Serving clients of a run while threads make it.
+//! The `serve` subcommand: answers clients of a run while threads make it.
 ghost use Rattle.std.specs.Prelude.{◌≤◌};
 
 use crate::{SCRIPT_AND_ONE, file_fault};
@@ -23,7 +23,7 @@ fn listen(
     }
 }
 
-// Prints the port. Standard output has no buffer, so that it is there once this returns.
+// Prints the port. Standard output has no buffer, so a reader has the line once this returns.
 fn print_port(rt: &impl Print, port: u16) -> Result<(), Fault> {
     match println!(rt; "port {port}") {
         Ok(()) => Ok(()),
@@ -31,7 +31,7 @@ fn print_port(rt: &impl Print, port: u16) -> Result<(), Fault> {
     }
 }
 
-// Listens, prints the port, and serves clients the run of a script that was read.
+// Listens, prints the port, and answers the clients of a script's run.
 fn serve_script<
     R: Print
         + AllocGlobal
@@ -58,8 +58,8 @@ fn serve_script<
     }
 }
 
-/// Listens on a port of loopback, prints it, and serves clients the run that threads make meanwhile
-/// over a script's setup. It ends after a number of sessions, or never.
+/// Listens on a port of loopback, prints it, and answers clients while threads run a script. Ends
+/// once `clients` sessions and the run have ended; with no such number it continues until killed.
 pub fn serve_file<
     R: Files
         + Print
