@@ -40,8 +40,8 @@ The first line is one of:
   not settled                      the run takes more than 20 seconds
   can't be run here: REASON
 
-Status: 0 if it is the same, 1 for a fault of the script or the output, 2 for a fault of the words, 3 if it differs, 4 if the schedule
-is not a kernel's or the run didn't settle, 69 if it can't be run here.
+Status: 0 if it is the same, 1 for a fault of the script or the output, 2 for a fault of the words, 3 if it differs, 4 if the
+schedule is not a kernel's or the run didn't settle, 69 if it can't be run here.
 """
 
 
