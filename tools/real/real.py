@@ -102,10 +102,17 @@ class Trial:
     def eager_run(self):
         plain = model.Run(self.program, self.setup)
         plain.extend(self.schedule)
+        if self.least_length(plain) > LIMIT:
+            raise kernel.NotSettled
         try:
             return eager.made(self.program, self.setup, self.schedule, plain)
         except eager.OtherSchedule as it:
             raise Verdict([f"not a kernel's schedule: event {it.index}"], OTHER_SCHEDULE) from it
+
+    def least_length(self, plain):
+        """Returns a time that the run takes at least: that of the calls, takes and ticks of the schedule's own run."""
+        settled = sum(map(len, plain.state.calls)) + sum(event.kind == "take" for event in self.schedule)
+        return settled * plan.SETTLING + sum(event.kind == "tick" for event in self.schedule) * plan.GROUP
 
     def compared(self):
         """Runs it on the kernel. Returns the differences, and whether the completions are in the model's order."""
