@@ -22,7 +22,6 @@ class Context:
     def __init__(self, found, run, outcome):
         self.found, self.run, self.state, self.setup, self.outcome = found, run, run.state, run.setup, outcome
         self.entries = []
-        self.bad_index = False
         for thread in self.setup.threads:
             self.read_program(thread)
         self.rows = self.state.rows
@@ -34,7 +33,6 @@ class Context:
             if kind == traces.PUT:
                 slots[numbers[0]] = traces.Entry.read(raw)
             elif kind == traces.PUSH:
-                self.bad_index |= numbers[0] >= self.setup.entries
                 self.entries.append(slots.get(numbers[0], traces.Entry.read(bytes(64))))
 
     def of_user(self, user):
@@ -51,6 +49,11 @@ class Context:
     def failed(self, row):
         """Whether a request completed as it was submitted."""
         return row.issued is None and row.result not in (None, ECANCELED)
+
+    def has_ended_timeout(self):
+        """Whether a TIMEOUT expired or was met on the kernel."""
+        users = [entry.user_data for entry in self.entries if entry.op == TIMEOUT]
+        return any(user in users and result in (0, ETIME) for user, result, _ in self.outcome.completions)
 
     def has(self, *ops):
         return any(entry.op in ops for entry in self.entries)
@@ -87,7 +90,7 @@ def by_transfer(entry, ours, theirs, kind):
     yield "partial-buffer", ours == [EFAULT] and entry.addr < MEMORY < end and (not theirs or theirs[0] != EFAULT)
     yield "offset-sum", theirs == [EINVAL] and ours in ([0], [EFBIG]) and entry.off < SIGNED <= entry.off + entry.len
     yield "pipe-offset", kind in (PIPE, EVENTFD) and theirs == [EINVAL] and SIGNED <= entry.off < POSITION
-    yield "pipe-pages", kind == PIPE and entry.op == WRITE and (not theirs or 0 <= theirs[0] < entry.len)
+    yield "pipe-pages", kind == PIPE and entry.op == WRITE and moves_less(ours, theirs)
 
 
 def by_wait(entry, ours, theirs, kind):
@@ -99,18 +102,24 @@ def by_wait(entry, ours, theirs, kind):
     if entry.op == LINK_TIMEOUT:
         yield "linked-address", ours == [EINVAL] and theirs == [EFAULT]
         yield "linked-cancel", ours == [ETIME] and theirs == [EALREADY]
-        yield "linked-race", theirs == [ENOENT]
+        yield "linked-race", ours in ([ETIME], [ECANCELED]) and theirs == [ENOENT]
         yield "linked-worker", ours == [ETIME] and theirs == [ECANCELED]
     if entry.op == TIMEOUT:
-        yield "count-width", entry.off >= 2 ** 32
+        yield "count-width", entry.off >= 2 ** 32 and 0 in theirs
     if entry.op == CANCEL and entry.opflags & 2:
         yield "closed-descriptor", ours == [ENOENT] and theirs == [EBADF]
-    yield "blocked-worker", theirs == [EINTR] or entry.op in REMOVALS and theirs == [EALREADY] and ours in ([0], [ECANCELED])
+    yield "blocked-worker", theirs == [EINTR] and ours == [ECANCELED]
+    yield "blocked-worker", entry.op in REMOVALS and theirs == [EALREADY] and ours == [0]
 
 
 def bits_apart(ours, theirs):
     """Whether two results of a poll differ in bits alone that the model doesn't have."""
     return bool(ours and theirs and ours[0] >= 0 and theirs[0] >= 0 and ours[0] == theirs[0] & MASK)
+
+
+def moves_less(ours, theirs):
+    """Whether a WRITE moves bytes here, and fewer of them on the kernel, or waits there."""
+    return bool(ours and ours[0] > 0) and (not theirs or 0 <= theirs[0] < ours[0])
 
 
 def lacks_room(ours, theirs):
@@ -189,9 +198,11 @@ def failed_fsync(context, entry):
 
 
 def longer_drain(context, entry, ours, theirs):
-    """Whether a kernel still holds a request that completed here, after a drain."""
+    """Whether a kernel still holds a request that completed here, after a drain, and an earlier one is open."""
     earlier = context.entries[:context.entries.index(entry)]
-    return bool(ours) and not theirs and any(it.flags & DRAIN for it in earlier)
+    completed = {user for user, *_ in context.outcome.completions}
+    is_open = any(it.user_data not in completed for it in earlier)
+    return bool(ours) and not theirs and is_open and any(it.flags & DRAIN for it in earlier)
 
 
 def counts_more(context, entry, ours, theirs):
@@ -228,7 +239,7 @@ def stop_of_submission(context):
     for it in context.found:
         if it.subject[0] == "call" and (name := own_name_of_call(context, it)):
             return name
-    if context.bad_index:
+    if context.outcome.words["sq.dropped"]:
         return "bad-index"
     for it in context.found:
         if it.subject[0] == "completion" and it.name and EINVAL in it.ours + it.theirs:
@@ -242,11 +253,11 @@ def own_name_of_call(context, it):
     """Returns the item that explains what a call returned by the call itself, or an empty text."""
     _, thread, call = it.subject
     calls = [numbers for kind, numbers, _ in context.setup.threads[thread] if kind in (ENTER, traces.CLOSE)]
-    if it.ours == [str(EBUSY)]:
+    if it.ours == [str(EBUSY)] and it.theirs and it.theirs[0].isdigit():
         return "no-ebusy"
     if it.ours == [str(EINVAL)] and call < len(calls) and len(calls[call]) == 3 and calls[call][2] & ~3:
         return "enter-flags"
-    if it.ours == ["waits"] and context.has(TIMEOUT) and it.theirs and it.theirs[0].isdigit():
+    if it.ours == ["waits"] and context.has_ended_timeout() and it.theirs and it.theirs[0].isdigit():
         return "timeout-return"
     return ""
 

@@ -11,6 +11,7 @@ import tempfile
 sys.dont_write_bytecode = True
 HERE = os.path.dirname(os.path.realpath(__file__))
 sys.path.insert(0, HERE)
+import children  # noqa: E402
 import compare  # noqa: E402
 import eager  # noqa: E402
 import kernel  # noqa: E402
@@ -19,7 +20,7 @@ import model  # noqa: E402
 import plan  # noqa: E402
 import traces  # noqa: E402
 
-SAME, WORDS, DIFFERS, OTHER_SCHEDULE, UNABLE = 0, 2, 3, 4, 69
+SAME, UNWRITTEN, WORDS, DIFFERS, OTHER_SCHEDULE, UNABLE = 0, 1, 2, 3, 4, 69
 TRIES = 3
 PAGE = 4096
 MINUTE = 60 * 10 ** 9
@@ -39,8 +40,8 @@ The first line is one of:
   not settled                      the run takes more than 20 seconds
   can't be run here: REASON
 
-Status: 0 if it is the same, 1 for a fault of the script, 2 for a fault of the words, 3 if it differs, 4 if the schedule
-is not a kernel's or the run didn't settle, 69 if it can't be run here.
+Status: 0 if it is the same, 1 for a fault of the script or the output, 2 for a fault of the words, 3 if it differs, 4 if the
+schedule is not a kernel's or the run didn't settle, 69 if it can't be run here.
 """
 
 
@@ -101,10 +102,17 @@ class Trial:
     def eager_run(self):
         plain = model.Run(self.program, self.setup)
         plain.extend(self.schedule)
+        if self.least_length(plain) > LIMIT:
+            raise kernel.NotSettled
         try:
             return eager.made(self.program, self.setup, self.schedule, plain)
         except eager.OtherSchedule as it:
             raise Verdict([f"not a kernel's schedule: event {it.index}"], OTHER_SCHEDULE) from it
+
+    def least_length(self, plain):
+        """Returns a time that the run takes at least: that of the calls, takes and ticks of the schedule's own run."""
+        settled = sum(map(len, plain.state.calls)) + sum(event.kind == "take" for event in self.schedule)
+        return settled * plan.SETTLING + sum(event.kind == "tick" for event in self.schedule) * plan.GROUP
 
     def compared(self):
         """Runs it on the kernel. Returns the differences, and whether the completions are in the model's order."""
@@ -134,6 +142,8 @@ def answer(script, program, room, built=None):
         return it.lines, it.status
     except kernel.Unable as it:
         return [f"can't be run here: {it}"], UNABLE
+    except OSError as it:
+        return [f"can't be run here: {it.filename or room}: {it.strerror}"], UNABLE
     except kernel.NotSettled:
         return ["not settled"], OTHER_SCHEDULE
     except model.Fault as it:
@@ -142,7 +152,24 @@ def answer(script, program, room, built=None):
 
 
 def end(number, _):
+    """Ends this process by a signal. Another one doesn't keep it from removing its files."""
+    for each in children.ENDING:
+        signal.signal(each, lambda *_: None)
     sys.exit(128 + number)
+
+
+def answer_in_folder(script, program):
+    """Returns the answer for a script, for which there is a temporary folder until then."""
+    signal.pthread_sigmask(signal.SIG_BLOCK, children.ENDING)  # until the folder is known here
+    try:
+        room = tempfile.mkdtemp(prefix="uringwalk-real-")
+    except OSError as it:
+        return [f"can't be run here: there is no folder for temporary files: {it.strerror}"], UNABLE
+    try:
+        signal.pthread_sigmask(signal.SIG_UNBLOCK, children.ENDING)
+        return answer(script, program, room)
+    finally:
+        shutil.rmtree(room, ignore_errors=True)
 
 
 def main():
@@ -153,14 +180,14 @@ def main():
     if len(words) != 1 or words[0].startswith("-"):
         print(USAGE, end="", file=sys.stderr)
         return WORDS
-    for number in (signal.SIGHUP, signal.SIGINT, signal.SIGTERM):
+    for number in children.ENDING:
         signal.signal(number, end)
-    room = tempfile.mkdtemp(prefix="uringwalk-real-")
+    lines, status = answer_in_folder(words[0], os.environ["URINGWALK"])
     try:
-        lines, status = answer(words[0], os.environ["URINGWALK"], room)
-    finally:
-        shutil.rmtree(room, ignore_errors=True)
-    sys.stdout.writelines(f"{line}\n" for line in lines)
+        os.write(1, "".join(f"{line}\n" for line in lines).encode())
+    except OSError as it:
+        print(f"uringwalk-real: the output can't be written: {it.strerror}", file=sys.stderr)
+        return UNWRITTEN
     return status
 
 
