@@ -12,6 +12,6 @@ returns c =
     let lines = c.in_ok-lines.lines.items in
     let words : string_bytes c.in_ok-format.field-0 ≡ event_text c.args.at.event = search rules in
     is_step c.args.at.setup.now c.args.at.events.now c.args.at.index c.args.at.event c.args.past.now c.args.at.state.now c.in_ok-changes.changes.items (map (λ line. line.items) lines) _ c.requires listed.once listed.listing
-        (c.in_ok-lines.ensures ∙ ap (λ ds. map (change_text c.args.at.setup.now) (rows ds)) c.deref.ensures.value)
-        words
-        (c.in_ok-shown_lines.ensures ∙ ap (map (λ line. shown_line line.items)) c.deref-2.ensures.value ∙ sym (map-map shown_line (λ line. line.items) lines))
+    (c.in_ok-lines.ensures ∙ ap (λ ds. map (change_text c.args.at.setup.now) (rows ds)) c.deref.ensures.value)
+    words
+    (c.in_ok-shown_lines.ensures ∙ ap (map (λ line. shown_line line.items)) c.deref-2.ensures.value ∙ sym (map-map shown_line (λ line. line.items) lines))
