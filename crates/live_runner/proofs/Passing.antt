@@ -89,7 +89,7 @@ module _ {G : Type 0} (opens shuts : G → ℕ → ℕ → Type 0) where
   passed_same g g' actor actor' n n' t t' v v' b b' eg ea en et ev eb h =
       rw ea (rw et (rw ev (rw eb (rw (sym en) (rw (sym eg) h)))))
 
-  -- What the workers of a run passed, its receipts tell.
+  -- What the gate let each worker of a closed run pass.
   pub passed_all : (g : G) (n : ℕ) (ws : List (WorkerState G)) (h : History) → WorkInOrder ws → All (HasWorked opens shuts g n) ws → AllPassed opens g n (closed_of h (all_receipts ws))
   passed_all g n ws h order all a rs there =
       let f : WorkerState G → List Receipt = λ w. w.seat.receipts in

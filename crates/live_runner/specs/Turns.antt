@@ -12,9 +12,9 @@ seat_after s Idle = s
 seat_after s (Refused x) = s
 seat_after s Stuck = s
 
--- An actor was to take n turns at gate g, `taken` of which it began, and made some events. It
--- arrived before each turn. The gate opened for the first `turns` ones, and each made at most one
--- event. If the gate stayed shut for the next one, the actor is stuck; else it took all n.
+-- An actor was to take n turns at gate g, `taken` of which it began. The gate opened for the first
+-- `turns` ones, and the actor made no more events than that. If the gate stayed shut for the next
+-- one, the actor is stuck; else it took all n.
 pub record HasPassed {G : Type 0} (opens shuts : G → ℕ → ℕ → Type 0) (g : G) (actor n taken events : ℕ) (is_stuck : Bool) : Type 0 where
   pub turns : ℕ
   pub most : turns ≤ n
@@ -29,8 +29,8 @@ abbrev pub HasWorked : {G : Type 0} → (G → ℕ → ℕ → Type 0) → (G �
 HasWorked {G} opens shuts g n w =
     HasPassed opens shuts g w.seat.actor n w.turns (length w.seat.receipts) w.is_stuck
 
--- Each actor of a closed run made at most one event in each of its first turns, at most n, and gate
--- g opened for each of these.
+-- Each actor of a closed run made no more events than some number of first turns, at most n, and
+-- gate g opened for each of these.
 abbrev pub AllPassed : {G : Type 0} → (G → ℕ → ℕ → Type 0) → G → ℕ → Past → Type 0
 AllPassed {G} opens g n c =
     (a : ℕ) (rs : List Receipt) → slice_get c.receipts a ≡ Some rs

@@ -18,9 +18,8 @@ use Rattle.machine.specs.Runs.{start, moment}
 use Rattle.occupancy.specs.declared.occupancy.Occupancy.{Occupancy}
 use Rattle.occupancy.specs.Fillings.{filling_of}
 use Rattle.occupancy.specs.Stamping.{stamps_after}
-use Rattle.occupancy.specs.declared.following.Followed.{Followed}
 use Rattle.occupancy.specs.declared.thread_stages.ThreadStages.{ThreadStages}
-use Rattle.occupancy.specs.Occupancies.{AreStamped, AreFilled, IsOccupancy, Follows, AreThreadStages, HasFollowed, IsFollowed}
+use Rattle.occupancy.specs.Occupancies.{AreStamped, AreFilled, Follows, AreThreadStages, HasFollowed}
 use Rattle.runs.specs.Moments.{IsAt, IsAfter}
 use Rattle.std.proofs.lemmas.Option.{slice_get_within}
 use Rattle.occupancy.proofs.Moments.{Growing, are_stamped_more, are_filled_more}
@@ -87,10 +86,6 @@ same_threads : (m n : Machine) → Grows m n → length n.threads ≡ length m.t
 same_threads m n g =
     sym (length-map n.threads program_of) ∙ (ap length (sym g.setup.programs) ∙ length-map m.threads program_of)
 
--- Each index of an event is small.
-pub index_within : (s : Setup) (es : List Event) (i : ℕ) (e : Event) (past : List Change) (n : Machine) (c : Occupancy) → Follows s es i c → IsAfter s es i e past n → i < 1048576
-index_within s es i e past n c l a = let w = slice_get_within es i e a.there in let m = l.most in omega (arith, w, m)
-
 -- No event lessens the requests and the overflowed completions below those recorded.
 pub rows_recorded : (s : Setup) (es : List Event) (i : ℕ) (e : Event) (past : List Change) (n : Machine) (c : Occupancy) → Follows s es i c → IsAfter s es i e past n → length c.stamps.items ≤ length n.table
 rows_recorded s es i e past n c l a = let k = l.occupancy.stamps.rows in let g = (grown s es i e past n a).rows in omega (arith, k, g)
@@ -139,13 +134,3 @@ stages_read s es i at n x a e stages l = subst (λ j. AreThreadStages (moment s 
 pub stages_kept : (s : Setup) (es : List Event) (i at : ℕ) (c : Occupancy) (x : ThreadStages) → HasFollowed s es i at c x → (i + 1 ≡ min at (length es) → ⊥)
     → min at (length es) ≤ i + 1 → AreThreadStages (moment s es (min at (length es))) x
 stages_kept s es i at c x h apart l = h.thread_stages (omega (arith, l, apart))
-
--- ---- the end
-
-pub has_finished : (s : Setup) (es : List Event) (m : Machine) (at : ℕ) (c : Occupancy) (x : ThreadStages) (f : Followed) → HasFollowed s es (length es) at c x → m ≡ moment s es (length es)
-    → f.occupancy ≡ c → f.rows.items ≡ m.table → f.thread_stages ≡ x → IsFollowed s es at f
-has_finished s es m at c x f h e o r t = record {
-  occupancy = subst (IsOccupancy s es (length es)) (sym o) h.follows.occupancy;
-  rows = r ∙ ap (λ n. n.table) e;
-  thread_stages = subst (AreThreadStages (moment s es (min at (length es)))) (sym t) (h.thread_stages (omega arith));
-}

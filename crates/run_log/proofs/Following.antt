@@ -12,10 +12,7 @@ use Rattle.machine.specs.declared.whole.Machine.{Machine}
 use Rattle.machine.specs.Whole.{view}
 use Rattle.machine.specs.Runs.{moment}
 use Rattle.whole_files.specs.Writes.{WritesFront}
-use Rattle.runs.specs.Faults.{of_driving}
-use Rattle.runs.specs.Moments.{IsAfter, Ends}
-use Rattle.runs.specs.declared.driving.Ended.{Ended}
-use Rattle.runs.specs.declared.driving.Ended.TheVariants as ended
+use Rattle.runs.specs.Moments.{IsAfter}
 use Rattle.runs.specs.declared.fault.ReportFault.{ReportFault}
 use Rattle.runs.specs.declared.fault.ReportFault.TheVariants.{Write, Memory}
 use Rattle.run_log.specs.declared.range.EventRange.{EventRange}
@@ -117,12 +114,3 @@ pub stopped_err : {Y : Type 0} (x : Result ⊤ ReportFault) (s : Setup) (es : Li
     → Y → IfErr x (λ f. ((f ≡ Memory) × Keeps b c) ⊎ ((f ≡ Write) × (text : List ℕ) × Shows s i e (view m) past text × WritesFront b c text)) → IfErr x (λ f. Stopped s es r f a c × Y)
 stopped_err (Ok u) s es r i e past m a b c at on w q h = tt
 stopped_err (Err f) s es r i e past m a b c at on w q h = (stopped_at s es r i e past m f a b c at on w h, q)
-
--- ---- the end of a run
-
--- A run that ended early, with what its observer saw and why it stops.
-pub stopped_by : {O : Type 0} (seen : O → Setup → List Event → ℕ → Type 0) (stops : O → Setup → List Event → ℕ → ReportFault → Type 0) (s : Setup) (es : List Event) (r : EventRange) (m : Machine) (o : O) (a b : Option (List ℕ))
-    → ((i : ℕ) → seen o s es i → Written s es r i a b) → ((i : ℕ) (f : ReportFault) → stops o s es i f → Stopped s es r f a b) → (x : Ended ReportFault) → Ends seen stops s es m o x → Stopped s es r (of_driving x) a b
-stopped_by seen stops s es r m o a b f g (ended.Refused i n) h = (h.0, f i h.2)
-stopped_by seen stops s es r m o a b f g ended.Memory h = (h.0, f h.0 h.3)
-stopped_by seen stops s es r m o a b f g (ended.Stopped x) h = g h.0 x h.3

@@ -1,5 +1,4 @@
 pub mod Ranges
-pub mod PlaceTexts
 pub mod Listings
 pub mod Lines
 pub mod Logs

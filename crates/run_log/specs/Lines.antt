@@ -8,11 +8,11 @@ use Rattle.places.specs.declared.value.Value.{Value}
 use Rattle.places.specs.Places.{same_place}
 use Rattle.places.specs.Text.{value_text}
 use Rattle.scenario.specs.Names.{fitting}
+use Rattle.scenario.specs.PlaceTexts.{place_text, number_of, number_text}
 use Rattle.scenario.specs.declared.event.Event.{Event}
 use Rattle.scenario.specs.declared.setup.Setup.{Setup}
 use Rattle.run_log.specs.declared.changed.Changed.{Changed}
 use Rattle.script.specs.EventTexts.{event_text}
-use Rattle.run_log.specs.PlaceTexts.{place_text, number_of, number_text}
 
 -- ---- rows: single changes and consecutive bytes
 

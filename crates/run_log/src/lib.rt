@@ -6,7 +6,6 @@ mod joining;
 pub mod laws;
 mod line;
 mod logging;
-mod place_text;
 mod range;
 
 pub use changed::{Changed, changes_of};

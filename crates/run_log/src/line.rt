@@ -2,13 +2,13 @@
 ghost use Rattle.std.specs.Prelude.{◌≡◌, ◌<◌, ◌++◌, length, codes, map, IfOk, OnOk};
 ghost use Rattle.std.specs.List.{flat_map};
 ghost use Rattle.run_log.specs.Lines.{value_shown, olds_text, news_text, end_text, values_text, change_text, line_text, rows, event_lines};
-ghost use Rattle.run_log.specs.PlaceTexts.{number_text};
+ghost use Rattle.scenario.specs.PlaceTexts.{number_text};
 
 use crate::changed::Changed;
 use crate::joining::first_row;
-use crate::place_text::{number_of, put_number, put_place};
 use machine::{Event, Setup};
 use places::Value;
+use scenario::{number_of, put_number, put_place};
 use script::EventText;
 use std::alloc::{AllocError, Global};
 

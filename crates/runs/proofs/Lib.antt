@@ -1,2 +1,1 @@
 pub mod Continuing
-pub mod Endings

@@ -1,2 +1,4 @@
 pub mod Sizes
 pub mod Numbers
+pub mod ObjectNames
+pub mod PrintedNames

@@ -1,3 +1,4 @@
 pub mod Programs
 pub mod Setups
+pub mod PlaceTexts
 pub mod Names

@@ -1,9 +1,8 @@
 -- The names of places in commands and scripts: one to three words, interpreted with a setup.
-use Rattle.std.specs.Prelude.{ℕ, ◌-◌, ◌^◌, ◌&&◌, ◌||◌, ◌==◌, List, [], ◌∷◌, length, codes, nat_lt, not, slice_get, slice_index, Bool, true, false, if◌then◌else◌, Option, Some, None, option_map, ok_or, Result, Ok, Err, is_some}
+use Rattle.std.specs.Prelude.{ℕ, ◌-◌, ◌^◌, ◌&&◌, ◌||◌, ◌==◌, List, [], ◌∷◌, length, nat_lt, not, slice_get, slice_index, Bool, true, false, if◌then◌else◌, Option, Some, None, option_map, ok_or, Result, Ok, Err, is_some}
 use Rattle.std.specs.Char.{is_ascii_digit}
-use Rattle.std.specs.List.{list_all, position}
+use Rattle.std.specs.List.{list_all, position, find}
 use Rattle.std.specs.Option.{option_and_then, option_map_or}
-use Rattle.std.specs.Str.{bytes_eq}
 use Rattle.std.specs.Str.Parse.{digits_value}
 use Rattle.places.specs.declared.object.Contents.{Contents}
 use Rattle.places.specs.declared.object.Contents.TheVariants as contents
@@ -12,6 +11,7 @@ use Rattle.places.specs.declared.object.Object.{Object}
 use Rattle.places.specs.declared.place.Place.{Place}
 use Rattle.places.specs.declared.place.Place.TheVariants.{SubmissionHead, SubmissionTail, SubmissionFlags, SubmissionDropped, CompletionHead, CompletionTail, Array, Slot, Completion, MemoryByte, FileByte, DurableByte, FileLength, DurableLength, Position, OpenMark, PipeByte, PutCount, TakenCount, EventCount, Request, Backlog, BacklogFront, Clock, Counted, PollerStage, ProgramCounter, ThreadStage, Last, Got}
 use Rattle.ring_words.specs.Rings.{rounded}
+use Rattle.scenario.specs.PlaceTexts.{is_word_of}
 use Rattle.scenario.specs.Setups.{completion_entries, is_named}
 use Rattle.scenario.specs.declared.setup.Setup.{Setup}
 use Rattle.scenario.specs.declared.names.PlaceFault.{PlaceFault}
@@ -41,39 +41,25 @@ number_of word = if is_numeral word then fitting (digits_value 10 word) else Non
 
 -- ---- One word
 
+-- The places with names of one word.
+abbrev pub singles : List Place
+singles =
+    SubmissionHead ∷ SubmissionTail ∷ SubmissionFlags ∷ SubmissionDropped ∷ CompletionHead
+    ∷ CompletionTail ∷ Clock ∷ Counted ∷ BacklogFront ∷ PollerStage ∷ []
+
+-- Whether a place with a name of one word exists. Only a setup with a poller has its stage.
+abbrev pub has_single : Setup → Place → Bool
+has_single s PollerStage = s.sqpoll
+has_single s _ = true
+
+abbrev pub if_there : Setup → Place → Option Place
+if_there s p = if has_single s p then Some p else None
+
 -- The place with a name of one word.
 abbrev pub single_named : Setup → List ℕ → Option Place
-single_named s w =
-    if bytes_eq w (codes "sq.head") then Some SubmissionHead
-    else if bytes_eq w (codes "sq.tail") then Some SubmissionTail
-    else if bytes_eq w (codes "sq.flags") then Some SubmissionFlags
-    else if bytes_eq w (codes "sq.dropped") then Some SubmissionDropped
-    else if bytes_eq w (codes "cq.head") then Some CompletionHead
-    else if bytes_eq w (codes "cq.tail") then Some CompletionTail
-    else if bytes_eq w (codes "clock") then Some Clock
-    else if bytes_eq w (codes "counted") then Some Counted
-    else if bytes_eq w (codes "bfront") then Some BacklogFront
-    else if bytes_eq w (codes "poller") then (if s.sqpoll then Some PollerStage else None)
-    else None
+single_named s w = option_and_then (if_there s) (find (is_word_of w) singles)
 
 -- ---- A word and a number
-
--- The kind of place that a word followed by a number names.
-abbrev pub kind_named : List ℕ → Option PlaceKind
-kind_named w =
-    if bytes_eq w (codes "array") then Some kind.Array
-    else if bytes_eq w (codes "slot") then Some kind.Slots
-    else if bytes_eq w (codes "cqe") then Some kind.Completions
-    else if bytes_eq w (codes "mem") then Some kind.MemoryBytes
-    else if bytes_eq w (codes "pos") then Some kind.Positions
-    else if bytes_eq w (codes "open") then Some kind.OpenMarks
-    else if bytes_eq w (codes "row") then Some kind.Requests
-    else if bytes_eq w (codes "backlog") then Some kind.Backlogs
-    else if bytes_eq w (codes "pc") then Some kind.ProgramCounters
-    else if bytes_eq w (codes "stage") then Some kind.Stages
-    else if bytes_eq w (codes "last") then Some kind.Lasts
-    else if bytes_eq w (codes "got") then Some kind.Gots
-    else None
 
 abbrev pub is_of : ObjectKind → Contents → Bool
 is_of object_kind.File (contents.File bytes) = true
@@ -127,30 +113,22 @@ place_in kind.Stages i = ThreadStage i
 place_in kind.Lasts i = Last i
 place_in kind.Gots i = Got i
 
+abbrev pub kinds : List PlaceKind
+kinds =
+    kind.Array ∷ kind.Slots ∷ kind.Completions ∷ kind.MemoryBytes ∷ kind.Positions ∷ kind.OpenMarks
+    ∷ kind.Requests ∷ kind.Backlogs ∷ kind.ProgramCounters ∷ kind.Stages ∷ kind.Lasts ∷ kind.Gots
+    ∷ []
+
+-- The kind of place that a word followed by a number names.
+abbrev pub kind_named : List ℕ → Option PlaceKind
+kind_named w = find (λ k. is_word_of w (place_in k 0)) kinds
+
 -- The place of this kind and number.
 abbrev pub member_of : Setup → PlaceKind → Option ℕ → Result Place PlaceFault
 member_of s k None = Err fault.Number
 member_of s k (Some i) = if is_member s k i then Ok (place_in k i) else Err fault.Place
 
 -- ---- A word, an object's name and, for a byte, its index
-
--- The kind of place that a word followed by an object's name names.
-abbrev pub object_place_named : List ℕ → Option ObjectPlace
-object_place_named w =
-    if bytes_eq w (codes "len") then Some of_object.FileLength
-    else if bytes_eq w (codes "dlen") then Some of_object.DurableLength
-    else if bytes_eq w (codes "put") then Some of_object.PutCount
-    else if bytes_eq w (codes "taken") then Some of_object.TakenCount
-    else if bytes_eq w (codes "event") then Some of_object.EventCount
-    else None
-
--- The kind of byte that a word, an object's name and a number name.
-abbrev pub byte_place_named : List ℕ → Option BytePlace
-byte_place_named w =
-    if bytes_eq w (codes "file") then Some of_byte.FileByte
-    else if bytes_eq w (codes "durable") then Some of_byte.DurableByte
-    else if bytes_eq w (codes "pipe") then Some of_byte.PipeByte
-    else None
 
 -- The kind of object that has such a place.
 abbrev pub owner_of : ObjectPlace → ObjectKind
@@ -192,6 +170,22 @@ abbrev pub place_of_byte : BytePlace → ℕ → ℕ → Place
 place_of_byte of_byte.FileByte o i = FileByte o i
 place_of_byte of_byte.DurableByte o i = DurableByte o i
 place_of_byte of_byte.PipeByte o i = PipeByte o i
+
+abbrev pub object_places : List ObjectPlace
+object_places =
+    of_object.FileLength ∷ of_object.DurableLength ∷ of_object.PutCount ∷ of_object.TakenCount
+    ∷ of_object.EventCount ∷ []
+
+-- The kind of place that a word followed by an object's name names.
+abbrev pub object_place_named : List ℕ → Option ObjectPlace
+object_place_named w = find (λ q. is_word_of w (place_of_object q 0)) object_places
+
+abbrev pub byte_places : List BytePlace
+byte_places = of_byte.FileByte ∷ of_byte.DurableByte ∷ of_byte.PipeByte ∷ []
+
+-- The kind of byte that a word, an object's name and a number name.
+abbrev pub byte_place_named : List ℕ → Option BytePlace
+byte_place_named w = find (λ b. is_word_of w (place_of_byte b 0 0)) byte_places
 
 abbrev pub object_place : Setup → Option ObjectPlace → List ℕ → Option Place
 object_place s None name = None

@@ -1,12 +1,13 @@
 //! Parsing of the names of places. A name has one to three words.
 ghost use Rattle.std.specs.Prelude.{◌≡◌, map, true};
 ghost use Rattle.std.specs.Char.{is_ascii_digit};
-ghost use Rattle.std.specs.List.{list_all};
-ghost use Rattle.std.specs.Str.{bytes_eq};
-ghost use Rattle.scenario.specs.Names.{is_numeral, number_of, single_named, kind_named, pair_named, byte_named, byte_place_named, place_named};
+ghost use Rattle.std.specs.List.{list_all, find};
+ghost use Rattle.scenario.specs.PlaceTexts.{is_word_of};
+ghost use Rattle.scenario.specs.Names.{is_numeral, number_of, singles, has_single, single_named, kind_named, pair_named, byte_named, byte_place_named, place_named};
 
 use crate::numbered::{kind_of_name, member};
 use crate::owned::{byte_of_name, byte_place, object_place, object_place_of_name};
+use crate::place_text::is_word_of;
 use crate::setup::Setup;
 use places::Place;
 
@@ -19,6 +20,20 @@ pub enum PlaceFault {
     /// A word that should be a number isn't one.
     Number,
 }
+
+// The places with names of one word.
+const SINGLES: [Place; 10] = [
+    Place::SubmissionHead,
+    Place::SubmissionTail,
+    Place::SubmissionFlags,
+    Place::SubmissionDropped,
+    Place::CompletionHead,
+    Place::CompletionTail,
+    Place::Clock,
+    Place::Counted,
+    Place::BacklogFront,
+    Place::PollerStage,
+];
 
 /// Returns the place that the words name. The checks have this order: the name and the number of
 /// words, the object and its kind, the syntax of numbers, their ranges. The numbers of descriptors
@@ -91,42 +106,28 @@ fn read_digits(word: &[u8]) -> Option<u32>
     }
 }
 
-/// Returns whether two words are equal.
-pub(crate) fn is_word(name: &[u8], word: &[u8]) -> bool
-    ensures { result ≡ bytes_eq name.now word.now }
+// Returns the place with a name of one word, whether or not the setup has it.
+fn single_of_name(name: &[u8]) -> Option<Place>
+    ensures { result ≡ find (is_word_of name.now) singles }
 {
-    name == word
+    SINGLES
+        .iter()
+        .find(|place| is_word_of(name, **place))
+        .copied()
+}
+
+fn has_single(setup: &Setup, place: Place) -> bool
+    ensures { result ≡ has_single setup.now place }
+{
+    match place {
+        Place::PollerStage => setup.sqpoll,
+        _ => true,
+    }
 }
 
 // Parses a name of one word.
 fn single(setup: &Setup, name: &[u8]) -> Option<Place>
     ensures { result ≡ single_named setup.now name.now }
 {
-    if is_word(name, b"sq.head") {
-        Some(Place::SubmissionHead)
-    } else if is_word(name, b"sq.tail") {
-        Some(Place::SubmissionTail)
-    } else if is_word(name, b"sq.flags") {
-        Some(Place::SubmissionFlags)
-    } else if is_word(name, b"sq.dropped") {
-        Some(Place::SubmissionDropped)
-    } else if is_word(name, b"cq.head") {
-        Some(Place::CompletionHead)
-    } else if is_word(name, b"cq.tail") {
-        Some(Place::CompletionTail)
-    } else if is_word(name, b"clock") {
-        Some(Place::Clock)
-    } else if is_word(name, b"counted") {
-        Some(Place::Counted)
-    } else if is_word(name, b"bfront") {
-        Some(Place::BacklogFront)
-    } else if is_word(name, b"poller") {
-        if setup.sqpoll {
-            Some(Place::PollerStage)
-        } else {
-            None
-        }
-    } else {
-        None
-    }
+    single_of_name(name).filter(|place| has_single(setup, *place))
 }

@@ -3,8 +3,9 @@ ghost use Rattle.std.specs.Prelude.{◌≡◌};
 ghost use Rattle.scenario.specs.Names.{kind_named, number_of, member_of, descriptor_at, is_open_file, completion_size};
 
 use crate::limits::{completion_entries, ring_size};
-use crate::names::{PlaceFault, is_word, read_number};
+use crate::names::{PlaceFault, read_number};
 use crate::owned::{ObjectKind, is_of};
+use crate::place_text::is_word_of;
 use crate::setup::Setup;
 use places::{Descriptor, Place};
 
@@ -25,37 +26,30 @@ pub enum PlaceKind {
     Gots,
 }
 
-/// Returns the kind of place that a word followed by a number names.
+const KINDS: [PlaceKind; 12] = [
+    PlaceKind::Array,
+    PlaceKind::Slots,
+    PlaceKind::Completions,
+    PlaceKind::MemoryBytes,
+    PlaceKind::Positions,
+    PlaceKind::OpenMarks,
+    PlaceKind::Requests,
+    PlaceKind::Backlogs,
+    PlaceKind::ProgramCounters,
+    PlaceKind::Stages,
+    PlaceKind::Lasts,
+    PlaceKind::Gots,
+];
+
+/// Returns the kind of place that a word followed by a number names. The first words of the places
+/// of a kind are the same.
 pub(crate) fn kind_of_name(name: &[u8]) -> Option<PlaceKind>
     ensures { result ≡ kind_named name.now }
 {
-    if is_word(name, b"array") {
-        Some(PlaceKind::Array)
-    } else if is_word(name, b"slot") {
-        Some(PlaceKind::Slots)
-    } else if is_word(name, b"cqe") {
-        Some(PlaceKind::Completions)
-    } else if is_word(name, b"mem") {
-        Some(PlaceKind::MemoryBytes)
-    } else if is_word(name, b"pos") {
-        Some(PlaceKind::Positions)
-    } else if is_word(name, b"open") {
-        Some(PlaceKind::OpenMarks)
-    } else if is_word(name, b"row") {
-        Some(PlaceKind::Requests)
-    } else if is_word(name, b"backlog") {
-        Some(PlaceKind::Backlogs)
-    } else if is_word(name, b"pc") {
-        Some(PlaceKind::ProgramCounters)
-    } else if is_word(name, b"stage") {
-        Some(PlaceKind::Stages)
-    } else if is_word(name, b"last") {
-        Some(PlaceKind::Lasts)
-    } else if is_word(name, b"got") {
-        Some(PlaceKind::Gots)
-    } else {
-        None
-    }
+    KINDS
+        .iter()
+        .find(|kind| is_word_of(name, kind.place(0)))
+        .copied()
 }
 
 /// Returns the place of this kind with the number in `word`.

@@ -4,7 +4,8 @@ ghost use Rattle.std.specs.List.{position};
 ghost use Rattle.scenario.specs.Names.{object_place_named, byte_place_named, is_of, is_object_of, object_named, most_bytes, bytes_of, owner_of, object_place, byte_of, byte_named, number_of};
 
 use crate::holdings::is_named;
-use crate::names::{PlaceFault, is_word, read_number};
+use crate::names::{PlaceFault, read_number};
+use crate::place_text::is_word_of;
 use crate::setup::Setup;
 use places::{Contents, Object, Place};
 
@@ -34,38 +35,38 @@ pub enum BytePlace {
     PipeByte,
 }
 
+const OBJECT_PLACES: [ObjectPlace; 5] = [
+    ObjectPlace::FileLength,
+    ObjectPlace::DurableLength,
+    ObjectPlace::PutCount,
+    ObjectPlace::TakenCount,
+    ObjectPlace::EventCount,
+];
+
+const BYTE_PLACES: [BytePlace; 3] = [
+    BytePlace::FileByte,
+    BytePlace::DurableByte,
+    BytePlace::PipeByte,
+];
+
 /// Returns the kind of place that a word followed by an object's name names.
 pub(crate) fn object_place_of_name(name: &[u8]) -> Option<ObjectPlace>
     ensures { result ≡ object_place_named name.now }
 {
-    if is_word(name, b"len") {
-        Some(ObjectPlace::FileLength)
-    } else if is_word(name, b"dlen") {
-        Some(ObjectPlace::DurableLength)
-    } else if is_word(name, b"put") {
-        Some(ObjectPlace::PutCount)
-    } else if is_word(name, b"taken") {
-        Some(ObjectPlace::TakenCount)
-    } else if is_word(name, b"event") {
-        Some(ObjectPlace::EventCount)
-    } else {
-        None
-    }
+    OBJECT_PLACES
+        .iter()
+        .find(|place| is_word_of(name, place.in_object(0)))
+        .copied()
 }
 
 /// Returns the kind of byte that a word, an object's name and a number name.
 pub(crate) fn byte_of_name(name: &[u8]) -> Option<BytePlace>
     ensures { result ≡ byte_place_named name.now }
 {
-    if is_word(name, b"file") {
-        Some(BytePlace::FileByte)
-    } else if is_word(name, b"durable") {
-        Some(BytePlace::DurableByte)
-    } else if is_word(name, b"pipe") {
-        Some(BytePlace::PipeByte)
-    } else {
-        None
-    }
+    BYTE_PLACES
+        .iter()
+        .find(|place| is_word_of(name, place.in_object(0, 0)))
+        .copied()
 }
 
 /// Returns whether an object has this kind.

@@ -1,12 +1,12 @@
-//! The names of places.
+//! Printing of the names of places.
 ghost use Rattle.std.specs.Prelude.{◌≡◌, ◌++◌, Some, OnOk};
-ghost use Rattle.run_log.specs.PlaceTexts.{word_of, owner_of, number_of, owner_text, number_text, place_text};
+ghost use Rattle.scenario.specs.PlaceTexts.{word_of, is_word_of, owner_of, number_of, owner_text, number_text, place_text};
 
-use machine::Setup;
+use crate::setup::Setup;
 use places::Place;
 use std::alloc::{AllocError, Global};
 
-/// Returns the first word of a place's name.
+// Returns the first word of a place's name.
 fn word_of(place: Place) -> &'static str
     ensures { result.now ≡ word_of place }
 {
@@ -44,6 +44,13 @@ fn word_of(place: Place) -> &'static str
     }
 }
 
+/// Returns whether a word is the first word of a place's name.
+pub(crate) fn is_word_of(word: &[u8], place: Place) -> bool
+    ensures { result ≡ is_word_of word.now place }
+{
+    word == word_of(place).as_bytes()
+}
+
 // Returns the object that a place belongs to, if its name says so.
 fn owner_of(place: Place) -> Option<u32>
     ensures { result ≡ owner_of place }
@@ -62,7 +69,7 @@ fn owner_of(place: Place) -> Option<u32>
 }
 
 /// Returns the number at the end of a place's name, if it has one.
-pub(crate) fn number_of(place: Place) -> Option<u32>
+pub fn number_of(place: Place) -> Option<u32>
     ensures { result ≡ number_of place }
 {
     match place {
@@ -96,8 +103,8 @@ fn put_owner(out: &mut Vec<u8>, setup: &Setup, object: u32) -> Result<(), AllocE
     }
 }
 
-// Writes a number after a text.
-pub(crate) fn put_number(
+/// Writes a number after a text.
+pub fn put_number(
     alloc: Global,
     out: &mut Vec<u8>,
     before: &str,
@@ -111,7 +118,7 @@ pub(crate) fn put_number(
 }
 
 /// Writes a place's name, as the commands of a session spell it.
-pub(crate) fn put_place(
+pub fn put_place(
     alloc: Global,
     out: &mut Vec<u8>,
     setup: &Setup,

@@ -1,6 +1,7 @@
 -- The names of places: a word, followed by an object's name, a number, or both.
-use Rattle.std.specs.Prelude.{ℕ, List, [], ◌++◌, codes, decimal, slice_get, Option, None, Some}
+use Rattle.std.specs.Prelude.{ℕ, List, [], ◌++◌, codes, decimal, slice_get, Bool, Option, None, Some}
 use Rattle.std.specs.Option.{option_map_or}
+use Rattle.std.specs.Str.{bytes_eq}
 use Rattle.places.specs.declared.object.Object.{Object}
 use Rattle.places.specs.declared.place.Place.{Place}
 use Rattle.places.specs.declared.place.Place.TheVariants.{SubmissionHead, SubmissionTail, SubmissionFlags, SubmissionDropped, CompletionHead, CompletionTail, Array, Slot, Completion, MemoryByte, FileByte, DurableByte, FileLength, DurableLength, Position, OpenMark, PipeByte, PutCount, TakenCount, EventCount, Request, Backlog, BacklogFront, Clock, Counted, PollerStage, ProgramCounter, ThreadStage, Last, Got}
@@ -38,6 +39,10 @@ word_of (ProgramCounter t) = codes "pc"
 word_of (ThreadStage t) = codes "stage"
 word_of (Last t) = codes "last"
 word_of (Got t) = codes "got"
+
+-- Whether a word is the first word of a place's name.
+abbrev pub is_word_of : List ℕ → Place → Bool
+is_word_of w p = bytes_eq w (word_of p)
 
 -- The object that a place belongs to, if its name says so.
 abbrev pub owner_of : Place → Option ℕ
