@@ -1,9 +1,9 @@
 //! What reports say about each kind: its name, and whether its findings are faults.
 ghost use Rattle.std.specs.Prelude.{◌≡◌, true, false};
-ghost use Rattle.finding_kinds.specs.Kinds.{is_fault, is_of_thread, is_of_row};
+ghost use Rattle.finding_kinds.specs.Kinds.{is_bad, is_fault, is_of_thread, is_of_row};
 
 use crate::kind::{
-    CancelKind, ConflictKind, EndedKind, Kind, LastingKind, LeftKind, QueuedKind, StepKind,
+    CancelKind, ConflictKind, EndedKind, Kind, LastingKind, LeftKind, QueuedKind, StepKind, Verdict,
 };
 
 /// A row of the table of kinds.
@@ -32,19 +32,29 @@ fn note(word: &'static str) -> Facts
     }
 }
 
+// The facts of a kind whose findings are faults or notes.
+fn judged(word: &'static str, verdict: Verdict) -> Facts
+    ensures { result.is_fault ≡ is_bad verdict }
+{
+    match verdict {
+        Verdict::Fault => fault(word),
+        Verdict::Note => note(word),
+    }
+}
+
 impl EndedKind {
     fn facts(self) -> Facts
         ensures { result.is_fault ≡ is_fault (Kind.Ended self) }
     {
         match self {
             EndedKind::Failed => fault("failed"),
-            EndedKind::Short => fault("short"),
+            EndedKind::Short(verdict) => judged("short", verdict),
             EndedKind::Severed => fault("severed"),
             EndedKind::Canceled => note("canceled"),
-            EndedKind::TimedOut => fault("timed-out"),
+            EndedKind::TimedOut(verdict) => judged("timed-out", verdict),
             EndedKind::Expired => note("expired"),
-            EndedKind::NotFound => fault("not-found"),
-            EndedKind::TooLate => fault("too-late"),
+            EndedKind::NotFound => note("not-found"),
+            EndedKind::TooLate => note("too-late"),
             EndedKind::WentOn => note("went-on"),
         }
     }
@@ -55,10 +65,11 @@ impl LastingKind {
         ensures { result.is_fault ≡ is_fault (Kind.Lasting self) }
     {
         match self {
-            LastingKind::Waits => fault("waits"),
+            LastingKind::Waits(verdict) => judged("waits", verdict),
             LastingKind::LostWakeUp => fault("lost-wake-up"),
-            LastingKind::NotTaken => fault("not-taken"),
+            LastingKind::NotTaken(verdict) => judged("not-taken", verdict),
             LastingKind::NotReaped => note("not-reaped"),
+            LastingKind::Stuck => fault("stuck"),
         }
     }
 }
@@ -68,8 +79,8 @@ impl LeftKind {
         ensures { result.is_fault ≡ is_fault (Kind.Left self) }
     {
         match self {
-            LeftKind::Unfinished => fault("unfinished"),
-            LeftKind::NotDurable => note("not-durable"),
+            LeftKind::Unfinished(verdict) => judged("unfinished", verdict),
+            LeftKind::NotDurable(verdict) => judged("not-durable", verdict),
         }
     }
 }
@@ -82,7 +93,7 @@ impl ConflictKind {
             ConflictKind::BufferInUse => fault("buffer-in-use"),
             ConflictKind::Unordered => fault("unordered"),
             ConflictKind::SharedPosition => fault("shared-position"),
-            ConflictKind::FsyncEarly => note("fsync-early"),
+            ConflictKind::FsyncEarly(verdict) => judged("fsync-early", verdict),
         }
     }
 }
@@ -99,6 +110,7 @@ impl StepKind {
             StepKind::ClosedEarly => fault("closed-early"),
             StepKind::ClosedWhileHeld => note("closed-while-held"),
             StepKind::RefusedFlags => fault("refused-flags"),
+            StepKind::ClosedTwice => fault("closed-twice"),
         }
     }
 }
@@ -108,7 +120,7 @@ impl QueuedKind {
         ensures { result.is_fault ≡ is_fault (Kind.Queued self) }
     {
         match self {
-            QueuedKind::CutOff => fault("cut-off"),
+            QueuedKind::CutOff => note("cut-off"),
             QueuedKind::NoEffect => note("no-effect"),
             QueuedKind::SameUserData => note("same-user-data"),
         }
@@ -140,11 +152,13 @@ impl Kind {
             Kind::Step(kind) => kind.facts(),
             Kind::Queued(kind) => kind.facts(),
             Kind::Cancel(kind) => kind.facts(),
+            Kind::TimespecInUse => ConflictKind::BufferInUse.facts(),
+            Kind::FsyncRetried => fault("fsync-retried"),
         }
     }
 
-    /// Returns the name of the kind on the command line and in reports. The two kinds of cancels
-    /// that matched nothing have one name.
+    /// Returns the name of the kind on the command line and in reports. A fault and a note of one
+    /// kind have one name, and so have the two kinds of cancels that matched nothing.
     pub fn word(self) -> &'static str {
         self.facts().word
     }
@@ -160,7 +174,10 @@ impl Kind {
     pub fn is_of_thread(self) -> bool
         ensures { result ≡ is_of_thread self }
     {
-        matches!(self, Kind::Step(_) | Kind::Lasting(LastingKind::Waits))
+        matches!(
+            self,
+            Kind::Step(_) | Kind::Lasting(LastingKind::Waits(_) | LastingKind::Stuck)
+        )
     }
 
     /// Returns whether the subject of such a finding is a request.
@@ -168,9 +185,13 @@ impl Kind {
         ensures { result ≡ is_of_row self }
     {
         match self {
-            Kind::Ended(_) | Kind::Conflict(_) | Kind::Queued(_) | Kind::Cancel(_) => true,
-            Kind::Left(kind) => matches!(kind, LeftKind::Unfinished),
-            Kind::Overflow | Kind::Lasting(_) | Kind::Step(_) => false,
+            Kind::Ended(_)
+            | Kind::Conflict(_)
+            | Kind::Queued(_)
+            | Kind::Cancel(_)
+            | Kind::FsyncRetried => true,
+            Kind::Left(kind) => matches!(kind, LeftKind::Unfinished(_)),
+            Kind::Overflow | Kind::Lasting(_) | Kind::Step(_) | Kind::TimespecInUse => false,
         }
     }
 }

@@ -1,5 +1,13 @@
 //! The kinds of findings, by what they arise from.
 
+/// Whether a finding is a bug or a loss, or a normal outcome that is worth a look. A kind carries
+/// its verdict if it can be both.
+#[derive(Clone, Copy, PartialEq, Eq, PartialOrd, Ord)]
+pub enum Verdict {
+    Fault,
+    Note,
+}
+
 /// The kind of a finding. Findings of one moment are reported in the order of their kinds: by group,
 /// and within a group in the order of its kinds.
 #[derive(Clone, Copy, PartialEq, Eq, PartialOrd, Ord)]
@@ -20,6 +28,11 @@ pub enum Kind {
     Queued(QueuedKind),
     /// An event completed a cancel or removal, by the requests that it matched.
     Cancel(CancelKind),
+    /// The timespec of a pushed entry was overwritten before the kernel took the entry.
+    TimespecInUse,
+    /// An FSYNC completed without error after one had failed, and bytes that were not durable then
+    /// have not been written again.
+    FsyncRetried,
 }
 
 /// The kinds about a request that an event completes.
@@ -27,14 +40,15 @@ pub enum Kind {
 pub enum EndedKind {
     /// It completed with an error that no other kind covers.
     Failed,
-    /// A READ or WRITE moved fewer bytes than it asked for.
-    Short,
-    /// A failed or short soft-linked request broke its chain (IOSQE_IO_LINK).
+    /// A READ or WRITE moved fewer bytes than it asked for. It is a note for a READ of a pipe, of an
+    /// eventfd, or up to the end of its file.
+    Short(Verdict),
+    /// A failed or short soft-linked request canceled the rest of its chain (IOSQE_IO_LINK).
     Severed,
-    /// It completed with ECANCELED.
+    /// It completed with ECANCELED, and no other finding names it.
     Canceled,
-    /// A LINK_TIMEOUT expired.
-    TimedOut,
+    /// A LINK_TIMEOUT expired. It is a fault if it canceled a request that could have completed.
+    TimedOut(Verdict),
     /// A TIMEOUT expired.
     Expired,
     /// A cancel or removal of one request matched none (ENOENT).
@@ -47,12 +61,14 @@ pub enum EndedKind {
 
 impl EndedKind {
     /// All kinds of the group, in order.
-    pub const ALL: [EndedKind; 9] = [
+    pub const ALL: [EndedKind; 11] = [
         EndedKind::Failed,
-        EndedKind::Short,
+        EndedKind::Short(Verdict::Fault),
+        EndedKind::Short(Verdict::Note),
         EndedKind::Severed,
         EndedKind::Canceled,
-        EndedKind::TimedOut,
+        EndedKind::TimedOut(Verdict::Fault),
+        EndedKind::TimedOut(Verdict::Note),
         EndedKind::Expired,
         EndedKind::NotFound,
         EndedKind::TooLate,
@@ -63,38 +79,49 @@ impl EndedKind {
 /// The kinds about a condition that lasts to the end.
 #[derive(Clone, Copy, PartialEq, Eq, PartialOrd, Ord)]
 pub enum LastingKind {
-    /// A thread waits in its enter.
-    Waits,
+    /// A thread waits in its enter. It is a note if the run was cut off.
+    Waits(Verdict),
     /// Entries wait while the poller sleeps.
     LostWakeUp,
-    /// Entries wait though no poller sleeps.
-    NotTaken,
+    /// Entries wait though no poller sleeps. It is a note if the run was cut off.
+    NotTaken(Verdict),
     /// Completions remain in the ring or in the backlog.
     NotReaped,
+    /// A thread reaps from an empty ring, or pushes to a full one, and the run is over.
+    Stuck,
 }
 
 impl LastingKind {
     /// All kinds of the group, in order.
-    pub const ALL: [LastingKind; 4] = [
-        LastingKind::Waits,
+    pub const ALL: [LastingKind; 7] = [
+        LastingKind::Waits(Verdict::Fault),
+        LastingKind::Waits(Verdict::Note),
         LastingKind::LostWakeUp,
-        LastingKind::NotTaken,
+        LastingKind::NotTaken(Verdict::Fault),
+        LastingKind::NotTaken(Verdict::Note),
         LastingKind::NotReaped,
+        LastingKind::Stuck,
     ];
 }
 
 /// The kinds about what is left at the end.
 #[derive(Clone, Copy, PartialEq, Eq, PartialOrd, Ord)]
 pub enum LeftKind {
-    /// A request is incomplete.
-    Unfinished,
-    /// A file has bytes that were written and are not durable.
-    NotDurable,
+    /// A request is incomplete. It is a note if the run was cut off.
+    Unfinished(Verdict),
+    /// A file has bytes that were written and are not durable. It is a fault if an FSYNC of the file
+    /// was submitted.
+    NotDurable(Verdict),
 }
 
 impl LeftKind {
     /// All kinds of the group, in order.
-    pub const ALL: [LeftKind; 2] = [LeftKind::Unfinished, LeftKind::NotDurable];
+    pub const ALL: [LeftKind; 4] = [
+        LeftKind::Unfinished(Verdict::Fault),
+        LeftKind::Unfinished(Verdict::Note),
+        LeftKind::NotDurable(Verdict::Fault),
+        LeftKind::NotDurable(Verdict::Note),
+    ];
 }
 
 /// The kinds about a conflict with an incomplete READ or WRITE.
@@ -106,17 +133,19 @@ pub enum ConflictKind {
     Unordered,
     /// An unordered request used the position of its descriptor.
     SharedPosition,
-    /// A later FSYNC of its file completed before this WRITE.
-    FsyncEarly,
+    /// A later FSYNC of its file completed before this WRITE. It is a fault if bytes of the WRITE
+    /// are not durable at the end.
+    FsyncEarly(Verdict),
 }
 
 impl ConflictKind {
     /// All kinds of the group, in order.
-    pub const ALL: [ConflictKind; 4] = [
+    pub const ALL: [ConflictKind; 5] = [
         ConflictKind::BufferInUse,
         ConflictKind::Unordered,
         ConflictKind::SharedPosition,
-        ConflictKind::FsyncEarly,
+        ConflictKind::FsyncEarly(Verdict::Fault),
+        ConflictKind::FsyncEarly(Verdict::Note),
     ];
 }
 
@@ -137,11 +166,13 @@ pub enum StepKind {
     ClosedWhileHeld,
     /// An enter returned EINVAL because of an unknown flag.
     RefusedFlags,
+    /// A closed descriptor was closed again (EBADF).
+    ClosedTwice,
 }
 
 impl StepKind {
     /// All kinds of the group, in order.
-    pub const ALL: [StepKind; 7] = [
+    pub const ALL: [StepKind; 8] = [
         StepKind::Busy,
         StepKind::TakenShort,
         StepKind::NoSuchSlot,
@@ -149,6 +180,7 @@ impl StepKind {
         StepKind::ClosedEarly,
         StepKind::ClosedWhileHeld,
         StepKind::RefusedFlags,
+        StepKind::ClosedTwice,
     ];
 }
 

@@ -18,7 +18,7 @@ pub use descriptors::{FIRST_DESCRIPTOR, descriptor_number};
 pub use finding::Finding;
 pub use history::{History, Met, Times};
 pub use kind::{
-    CancelKind, ConflictKind, EndedKind, Kind, LastingKind, LeftKind, QueuedKind, StepKind,
+    CancelKind, ConflictKind, EndedKind, Kind, LastingKind, LeftKind, QueuedKind, StepKind, Verdict,
 };
 pub use limits::{LOOKED_BACK, MOST_ROWS};
 pub use programs::instruction_at;

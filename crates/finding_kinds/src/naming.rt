@@ -4,7 +4,7 @@ ghost use Rattle.finding_kinds.specs.Kinds.{first_named};
 ghost use Rattle.finding_kinds.specs.Orders.{have_one_name};
 
 use crate::kind::{
-    CancelKind, ConflictKind, EndedKind, Kind, LastingKind, LeftKind, QueuedKind, StepKind,
+    CancelKind, ConflictKind, EndedKind, Kind, LastingKind, LeftKind, QueuedKind, StepKind, Verdict,
 };
 
 // Returns the first kind of a group with this name.
@@ -31,13 +31,28 @@ impl Kind {
             .or(named(&StepKind::ALL, Kind::Step, word))
             .or(named(&QueuedKind::ALL, Kind::Queued, word))
             .or(named(&CancelKind::ALL, Kind::Cancel, word))
+            .or(named(&[Kind::FsyncRetried], |kind| kind, word))
     }
 
     fn first_named(self) -> Kind
         ensures { result ≡ first_named self }
     {
         match self {
+            Kind::Ended(EndedKind::Short(_)) => Kind::Ended(EndedKind::Short(Verdict::Fault)),
+            Kind::Ended(EndedKind::TimedOut(_)) => Kind::Ended(EndedKind::TimedOut(Verdict::Fault)),
+            Kind::Lasting(LastingKind::Waits(_)) => {
+                Kind::Lasting(LastingKind::Waits(Verdict::Fault))
+            }
+            Kind::Lasting(LastingKind::NotTaken(_)) => {
+                Kind::Lasting(LastingKind::NotTaken(Verdict::Fault))
+            }
+            Kind::Left(LeftKind::Unfinished(_)) => Kind::Left(LeftKind::Unfinished(Verdict::Fault)),
+            Kind::Left(LeftKind::NotDurable(_)) => Kind::Left(LeftKind::NotDurable(Verdict::Fault)),
+            Kind::Conflict(ConflictKind::FsyncEarly(_)) => {
+                Kind::Conflict(ConflictKind::FsyncEarly(Verdict::Fault))
+            }
             Kind::Cancel(CancelKind::NoneFound) => Kind::Ended(EndedKind::NotFound),
+            Kind::TimespecInUse => Kind::Conflict(ConflictKind::BufferInUse),
             kind => kind,
         }
     }
