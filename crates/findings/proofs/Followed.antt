@@ -17,7 +17,7 @@ use Rattle.machine.specs.Whole.{view}
 use Rattle.runs.specs.Moments.{IsAt, IsAfter}
 use Rattle.finding_kinds.specs.declared.finding.Finding.{Finding}
 use Rattle.finding_kinds.specs.declared.kind.Kind.{Kind}
-use Rattle.finding_kinds.specs.declared.kind.Kind.TheVariants.{Ended, Overflow, Conflict, Step, Queued, Cancel}
+use Rattle.finding_kinds.specs.declared.kind.Kind.TheVariants.{Ended, Overflow, Conflict, Step, Queued, Cancel, TimespecInUse}
 use Rattle.finding_kinds.specs.Programs.{instruction_at}
 use Rattle.findings.specs.declared.conditions.Before.{Before}
 use Rattle.findings.specs.declared.watching.Watch.{Watch}
@@ -29,7 +29,7 @@ use Rattle.findings.specs.Searching.{facts_before, NotesFacts, HasSearched}
 use Rattle.findings.specs.Watched.{advanced, watched, of_lasting}
 use Rattle.findings.proofs.Lasting.{watched_first, advanced_more, lasting_reported}
 use Rattle.findings.proofs.Left.{all_at_end}
-use Rattle.findings.proofs.WouldConflict.{effect_done, effect_there}
+use Rattle.findings.proofs.WouldConflict.{effect_done, effect_there, timespec_there}
 use Rattle.findings.proofs.Candidates.{covers_more, covers_none}
 use Rattle.findings.proofs.Groups.{the_finding}
 use Rattle.findings.proofs.Members.{Has, has_left, has_right, has_contains}
@@ -99,7 +99,7 @@ found_more s es i e fs gs numbers now there h covered adds = record {
     rings_reported = shown_reported _ (event_shown s i (machine_at s es i) e (after (machine_at s es i) e))
 
     effects_reported : All (IsEarly s es (i + 1)) (of_effects s i (machine_at s es i) e (after (machine_at s es i) e) now)
-    effects_reported = effect_done (IsEarly s es (i + 1)) i s (after (machine_at s es i) e) (done_at s (machine_at s es i) e (after (machine_at s es i) e)) now (λ kind q h. reported (the_finding i (Conflict kind) q) refl h)
+    effects_reported = effect_done (IsEarly s es (i + 1)) i s (after (machine_at s es i) e) (done_at s (machine_at s es i) e (after (machine_at s es i) e)) now (λ kind q h. reported (the_finding i (Conflict kind) q) refl h) (λ slot h. reported (the_finding i TimespecInUse slot) refl h)
 
     back : (f : Finding) → f.moment ≡ i → (xs : List Finding) → Has xs (record { moment = i; kind = f.kind; subject = f.subject }) → Has xs f
     back f same xs has = subst (λ (k : ℕ). Has xs (record { moment = k; kind = f.kind; subject = f.subject })) (sym same) has
@@ -117,6 +117,7 @@ found_more s es i e fs gs numbers now there h covered adds = record {
     occurs_there (Step kind) n k = in_event _ (event_step s i (machine_at s es i) e (after (machine_at s es i) e) kind n k)
     occurs_there (Cancel kind) n k = in_event _ (event_cancel s i (machine_at s es i) e (after (machine_at s es i) e) kind n k)
     occurs_there (Conflict kind) n k = has_right ((fs ++ of_rows i (after (machine_at s es i) e) adds.past) ++ of_event s i (machine_at s es i) e (after (machine_at s es i) e)) _ _ (effect_there i s (after (machine_at s es i) e) (done_at s (machine_at s es i) e (after (machine_at s es i) e)) now kind n covered k)
+    occurs_there TimespecInUse n k = has_right ((fs ++ of_rows i (after (machine_at s es i) e) adds.past) ++ of_event s i (machine_at s es i) e (after (machine_at s es i) e)) _ _ (timespec_there i s (after (machine_at s es i) e) (done_at s (machine_at s es i) e (after (machine_at s es i) e)) now n k)
     occurs_there _ n k = absurd (false_true k)
 
     now_reported : (f : Finding) → f.moment ≡ i → occurs_at s es f.moment f.kind f.subject ≡ true → Has (((fs ++ of_rows i (after (machine_at s es i) e) adds.past) ++ of_event s i (machine_at s es i) e (after (machine_at s es i) e)) ++ of_effects s i (machine_at s es i) e (after (machine_at s es i) e) now) f

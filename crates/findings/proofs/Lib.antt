@@ -4,11 +4,12 @@ pub mod Notes
 pub mod Shown
 pub mod Candidates
 pub mod Passing
+pub mod Waiting
+pub mod Timespecs
 pub mod WouldConflict
 pub mod Draining
 pub mod Looking
 pub mod Unfinished
-pub mod Waiting
 pub mod Barriers
 pub mod Lasting
 pub mod Left

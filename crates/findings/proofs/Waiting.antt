@@ -6,7 +6,8 @@ use Rattle.std.specs.Prelude.{Some, slice_get}
 use Rattle.std.specs.Option.{option_map_or}
 use Rattle.findings.proofs.Looking.{passes}
 
-drop_get : (xs : List ℕ) (n k : ℕ) → slice_get (drop n xs) k ≡ slice_get xs (n + k)
+-- The element at an index of what is left.
+pub drop_get : (xs : List ℕ) (n k : ℕ) → slice_get (drop n xs) k ≡ slice_get xs (n + k)
 drop_get xs n k = grind (arith, common_steps, gets)
 
 -- The test of an index read from the ring is that of the list's element.

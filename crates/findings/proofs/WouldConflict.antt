@@ -11,13 +11,15 @@ use Rattle.machine.specs.declared.whole.Machine.{Machine}
 use Rattle.findings.specs.declared.effect.Effect.{Effect}
 use Rattle.findings.specs.declared.effect.Effect.TheVariants.{Nothing, Stored, Finished}
 use Rattle.finding_kinds.specs.declared.finding.Finding.{Finding}
-use Rattle.finding_kinds.specs.declared.kind.Kind.TheVariants.{Conflict}
+use Rattle.finding_kinds.specs.declared.kind.Kind.TheVariants.{Conflict, TimespecInUse}
 use Rattle.finding_kinds.specs.declared.kind.ConflictKind.{ConflictKind}
 use Rattle.finding_kinds.specs.declared.kind.TheConstants.ConflictKind.{ALL as conflict_kinds}
 use Rattle.findings.specs.Conflicts.{is_candidate, is_conflict, conflicts}
-use Rattle.findings.specs.Records.{of_candidate, of_number, of_effect, Covers}
+use Rattle.findings.specs.Timespecs.{overwrites, of_timespecs}
+use Rattle.findings.specs.Records.{of_candidate, of_number, of_conflicts, of_effect, Covers}
 use Rattle.findings.proofs.Groups.{the_finding, group_only, group_there, is_conflict_kind}
-use Rattle.findings.proofs.Members.{Has, has_flat_map, contains_has}
+use Rattle.findings.proofs.Members.{Has, has_left, has_right, has_flat_map, contains_has}
+use Rattle.findings.proofs.Timespecs.{timespecs_only, timespecs_there}
 
 false_true : false ≡ true → ⊥
 false_true e = cc
@@ -43,10 +45,15 @@ module _ (P : Finding → Type 0) (i : ℕ) (s : Setup) (m : Machine) (d : Effec
   numbers_done [] = All-nil P
   numbers_done (q ∷ numbers) = All-append P (of_number i s m d q) (flat_map (of_number i s m d) numbers) (number_done q) (numbers_done numbers)
 
-pub effect_done : (P : Finding → Type 0) (i : ℕ) (s : Setup) (m : Machine) (d : Effect) (numbers : List ℕ) → ((kind : ConflictKind) (q : ℕ) → is_done s m d kind q ≡ true → P (the_finding i (Conflict kind) q)) → All P (of_effect i s m d numbers)
-effect_done P i s m Nothing numbers h = All-nil P
-effect_done P i s m (Stored address n) numbers h = numbers_done P i s m (Stored address n) h numbers
-effect_done P i s m (Finished r row) numbers h = numbers_done P i s m (Finished r row) h numbers
+conflicts_done : (P : Finding → Type 0) (i : ℕ) (s : Setup) (m : Machine) (d : Effect) (numbers : List ℕ) → ((kind : ConflictKind) (q : ℕ) → is_done s m d kind q ≡ true → P (the_finding i (Conflict kind) q)) → All P (of_conflicts i s m d numbers)
+conflicts_done P i s m Nothing numbers h = All-nil P
+conflicts_done P i s m (Stored address n) numbers h = numbers_done P i s m (Stored address n) h numbers
+conflicts_done P i s m (Finished r row) numbers h = numbers_done P i s m (Finished r row) h numbers
+
+-- What holds of each conflict and of each overwritten timespec holds of all findings.
+pub effect_done : (P : Finding → Type 0) (i : ℕ) (s : Setup) (m : Machine) (d : Effect) (numbers : List ℕ) → ((kind : ConflictKind) (q : ℕ) → is_done s m d kind q ≡ true → P (the_finding i (Conflict kind) q))
+    → ((slot : ℕ) → overwrites m d slot ≡ true → P (the_finding i TimespecInUse slot)) → All P (of_effect i s m d numbers)
+effect_done P i s m d numbers h g = All-append P (of_conflicts i s m d numbers) (of_timespecs i m d) (conflicts_done P i s m d numbers h) (timespecs_only P i m d g)
 
 -- ---- nothing left out
 
@@ -73,7 +80,13 @@ nothing_done s m kind q h = by (slice_get m.table q) h
     by None t = false_true t
     by (Some row) t = false_true (and_parts (is_candidate row) false t).1
 
+conflict_there : (i : ℕ) (s : Setup) (m : Machine) (d : Effect) (numbers : List ℕ) (kind : ConflictKind) (q : ℕ) → Covers m.table numbers → is_done s m d kind q ≡ true → Has (of_conflicts i s m d numbers) (the_finding i (Conflict kind) q)
+conflict_there i s m Nothing numbers kind q covers h = absurd (nothing_done s m kind q h)
+conflict_there i s m (Stored address n) numbers kind q covers h = number_there i s m (Stored address n) numbers kind q covers h
+conflict_there i s m (Finished r row) numbers kind q covers h = number_there i s m (Finished r row) numbers kind q covers h
+
 pub effect_there : (i : ℕ) (s : Setup) (m : Machine) (d : Effect) (numbers : List ℕ) (kind : ConflictKind) (q : ℕ) → Covers m.table numbers → is_done s m d kind q ≡ true → Has (of_effect i s m d numbers) (the_finding i (Conflict kind) q)
-effect_there i s m Nothing numbers kind q covers h = absurd (nothing_done s m kind q h)
-effect_there i s m (Stored address n) numbers kind q covers h = number_there i s m (Stored address n) numbers kind q covers h
-effect_there i s m (Finished r row) numbers kind q covers h = number_there i s m (Finished r row) numbers kind q covers h
+effect_there i s m d numbers kind q covers h = has_left (of_conflicts i s m d numbers) (of_timespecs i m d) _ (conflict_there i s m d numbers kind q covers h)
+
+pub timespec_there : (i : ℕ) (s : Setup) (m : Machine) (d : Effect) (numbers : List ℕ) (slot : ℕ) → overwrites m d slot ≡ true → Has (of_effect i s m d numbers) (the_finding i TimespecInUse slot)
+timespec_there i s m d numbers slot h = has_right (of_conflicts i s m d numbers) (of_timespecs i m d) _ (timespecs_there i m d slot h)

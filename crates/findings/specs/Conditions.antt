@@ -1,10 +1,11 @@
 -- Findings about the rings and the threads: events, and conditions that last to the end of a run.
-use Rattle.std.specs.Prelude.{◌≡◌, ℕ, ℤ, pos, ◌+◌, ◌≤◌, ◌==◌, Bool, true, false, not, ◌&&◌, ◌||◌, nat_lt, if◌then◌else◌, Option, Some, None, is_none, option_map, slice_get, length}
+use Rattle.std.specs.Prelude.{◌≡◌, ℕ, ℤ, pos, ◌+◌, ◌≤◌, ◌==◌, Bool, true, false, not, ◌&&◌, ◌||◌, nat_lt, if◌then◌else◌, Option, Some, None, is_none, is_some, option_map, slice_get, length}
 use Rattle.std.specs.Option.{option_map_or, option_and_then}
 use Rattle.std.specs.Ordering.{int_eq}
 use Rattle.std.specs.Str.{bytes_eq}
 use Rattle.model_files.specs.Files.{FileState, content, durable_content}
 use Rattle.model_files.specs.Worlds.{WorldState, file_of}
+use Rattle.places.specs.declared.place.Place.TheVariants.{OpenMark}
 use Rattle.places.specs.declared.value.Stage.{Stage}
 use Rattle.places.specs.declared.value.Stage.TheVariants.{Ready, Waiting}
 use Rattle.scenario.specs.declared.event.Event.{Event}
@@ -17,12 +18,13 @@ use Rattle.links_drains.specs.Units.{is_open}
 use Rattle.machine.specs.declared.whole.Machine.{Machine}
 use Rattle.machine.specs.Steps.{number_in}
 use Rattle.machine.specs.Threads.{ThreadState}
+use Rattle.machine.specs.Whole.{view}
 use Rattle.finding_kinds.specs.declared.kind.LastingKind.{LastingKind}
 use Rattle.finding_kinds.specs.declared.kind.LastingKind.TheVariants.{Waits, LostWakeUp, NotTaken, NotReaped}
 use Rattle.finding_kinds.specs.declared.kind.LeftKind.{LeftKind}
 use Rattle.finding_kinds.specs.declared.kind.LeftKind.TheVariants.{Unfinished, NotDurable}
 use Rattle.finding_kinds.specs.declared.kind.StepKind.{StepKind}
-use Rattle.finding_kinds.specs.declared.kind.StepKind.TheVariants.{Busy, TakenShort, NoSuchSlot, SlotInUse, ClosedEarly, ClosedWhileHeld, RefusedFlags}
+use Rattle.finding_kinds.specs.declared.kind.StepKind.TheVariants.{Busy, TakenShort, NoSuchSlot, SlotInUse, ClosedEarly, ClosedWhileHeld, RefusedFlags, ClosedTwice}
 use Rattle.findings.specs.Endings.{is_error, is_less}
 use Rattle.findings.specs.Uses.{is_pushed_last, is_named, is_held}
 use Rattle.finding_kinds.specs.Programs.{instruction_at}
@@ -75,6 +77,10 @@ is_step_of n e = false
 abbrev pub has_closed : Machine → ℕ → Bool
 has_closed m t = option_map_or (λ n. int_eq n (pos 0)) (answer_of m t) false
 
+-- Whether the setup has a descriptor, open or closed.
+abbrev pub has_descriptor : Machine → ℕ → Bool
+has_descriptor m fd = is_some (view m (OpenMark fd))
+
 -- Whether a step of thread t is a finding about it, by its instruction, whether it changed a slot,
 -- and the machine after it (io_uring_enter(2), io_uring(7), close(2)):
 --   Busy: an enter returned EBUSY.
@@ -86,6 +92,7 @@ has_closed m t = option_map_or (λ n. int_eq n (pos 0)) (answer_of m t) false
 --   ClosedEarly: a queued request uses the closed descriptor, or an entry that was pushed and not
 --     yet taken. The close succeeded.
 --   ClosedWhileHeld: an issued request holds the closed descriptor. The close succeeded.
+--   ClosedTwice: a close of a descriptor of the setup returned EBADF.
 abbrev pub is_of_step : StepKind → Bool → Instruction → Machine → ℕ → Bool
 is_of_step Busy changes (Enter to_submit min_complete flags) m t = option_map_or (is_error 16) (answer_of m t) false
 is_of_step TakenShort changes (Enter to_submit min_complete flags) m t = option_map_or (λ n. is_less n to_submit) (answer_of m t) false
@@ -94,6 +101,7 @@ is_of_step NoSuchSlot changes (Push index) m t = is_none (slice_get m.submission
 is_of_step SlotInUse changes (Put slot entry) m t = changes && is_pushed_last m.submissions slot
 is_of_step ClosedEarly changes (Close fd) m t = has_closed m t && option_map_or (is_named m) (number_in fd) false
 is_of_step ClosedWhileHeld changes (Close fd) m t = has_closed m t && option_map_or (is_held m) (number_in fd) false
+is_of_step ClosedTwice changes (Close fd) m t = option_map_or (is_error 9) (answer_of m t) false && option_map_or (has_descriptor m) (number_in fd) false
 is_of_step kind changes x m t = false
 
 -- Whether a thread of the setup waits in its enter.

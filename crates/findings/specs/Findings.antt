@@ -9,7 +9,7 @@ use Rattle.machine.specs.declared.whole.Machine.{Machine}
 use Rattle.machine.specs.Steps.{after}
 use Rattle.machine.specs.Runs.{moment as machine_at}
 use Rattle.finding_kinds.specs.declared.kind.Kind.{Kind}
-use Rattle.finding_kinds.specs.declared.kind.Kind.TheVariants.{Ended, Overflow, Lasting, Left, Conflict, Step, Queued, Cancel}
+use Rattle.finding_kinds.specs.declared.kind.Kind.TheVariants.{Ended, Overflow, Lasting, Left, Conflict, Step, Queued, Cancel, TimespecInUse, FsyncRetried}
 use Rattle.finding_kinds.specs.declared.kind.EndedKind.{EndedKind}
 use Rattle.finding_kinds.specs.declared.kind.LastingKind.{LastingKind}
 use Rattle.finding_kinds.specs.declared.kind.QueuedKind.{QueuedKind}
@@ -18,7 +18,8 @@ use Rattle.finding_kinds.specs.declared.finding.Finding.{Finding}
 use Rattle.finding_kinds.specs.Orders.{order_of}
 use Rattle.findings.specs.Endings.{ended_test, queued_test}
 use Rattle.findings.specs.Conditions.{overflows, done_by, is_of_step, is_step_of, condition_holds, is_left, Began}
-use Rattle.findings.specs.Conflicts.{clashes}
+use Rattle.findings.specs.Conflicts.{clashes, done_at}
+use Rattle.findings.specs.Timespecs.{overwrites}
 use Rattle.findings.specs.Canceling.{cancel_shows}
 use Rattle.findings.specs.Uses.{changes_slot}
 
@@ -54,6 +55,8 @@ occurs s Overflow before e next_state n = spills before next_state n
 occurs s (Step kind) before e next_state n = step_shows s kind before e next_state n
 occurs s (Cancel kind) before e next_state n = cancel_shows kind before e next_state n
 occurs s (Conflict kind) before e next_state n = clashes s kind before e next_state n
+occurs s TimespecInUse before e next_state n = overwrites next_state (done_at s before e next_state) n
+occurs s FsyncRetried before e next_state n = false
 occurs s (Lasting kind) before e next_state n = false
 occurs s (Left kind) before e next_state n = false
 

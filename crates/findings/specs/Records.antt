@@ -40,13 +40,11 @@ use Rattle.findings.specs.Conditions.{overflows, done_by, is_of_step, has_unsync
 use Rattle.findings.specs.Conflicts.{done_at, is_candidate, conflicts}
 use Rattle.findings.specs.Uses.{changes_at}
 use Rattle.findings.specs.Findings.{occurs_at, Lasts, IsLeft, IsFinding}
+pub use Rattle.findings.specs.Given.{given}
+use Rattle.findings.specs.Timespecs.{of_timespecs}
 use Rattle.findings.specs.Watched.{numbers_below}
 
 -- ---- one record
-
--- The finding if the test is true, else none.
-abbrev pub given : Bool → Finding → List Finding
-given test f = if test then f ∷ [] else []
 
 -- The findings about one subject of those kinds of a group that pass a test.
 abbrev pub of_group : {K : Type 0} → (K → Kind) → (K → Bool) → ℕ → ℕ → List K → List Finding
@@ -127,9 +125,13 @@ abbrev pub of_number : ℕ → Setup → Machine → Effect → ℕ → List Fin
 of_number i s m effect q = option_map_or (of_candidate i s m effect q) (slice_get m.table q) []
 
 -- The conflicts of an event with the requests of some numbers.
+abbrev pub of_conflicts : ℕ → Setup → Machine → Effect → List ℕ → List Finding
+of_conflicts i s m Nothing numbers = []
+of_conflicts i s m effect numbers = flat_map (of_number i s m effect) numbers
+
+-- The findings about the effect of an event: conflicts, and timespecs that it overwrites.
 abbrev pub of_effect : ℕ → Setup → Machine → Effect → List ℕ → List Finding
-of_effect i s m Nothing numbers = []
-of_effect i s m effect numbers = flat_map (of_number i s m effect) numbers
+of_effect i s m effect numbers = of_conflicts i s m effect numbers ++ of_timespecs i m effect
 
 -- ---- the numbers of the incomplete READs and WRITEs
 

@@ -2,13 +2,14 @@
 ghost use Rattle.std.specs.Prelude.{◌≡◌, false};
 ghost use Rattle.std.specs.Option.{option_map_or};
 ghost use Rattle.links_drains.specs.Links.{has_flag};
-ghost use Rattle.findings.specs.Conditions.{needs_wake_up, overflows, has_entries, has_completions, counter_of, answer_of, has_closed, is_of_step, waits, condition_holds};
+ghost use Rattle.findings.specs.Conditions.{needs_wake_up, overflows, has_entries, has_completions, counter_of, answer_of, has_closed, has_descriptor, is_of_step, waits, condition_holds};
 ghost use Rattle.findings.specs.Endings.{is_error, is_less};
+ghost use Rattle.machine.specs.Steps.{number_in};
 ghost use Rattle.findings.specs.Searching.{facts_before};
 
 use crate::canceling::{Cancel, cancel_before};
 use crate::uses::{Sought, changes_at, first_pushed, is_held, is_named, is_pushed_last};
-use entries::{EBUSY, EINVAL, IORING_SQ_CQ_OVERFLOW, IORING_SQ_NEED_WAKEUP};
+use entries::{EBADF, EBUSY, EINVAL, IORING_SQ_CQ_OVERFLOW, IORING_SQ_NEED_WAKEUP};
 use finding_kinds::{LastingKind, StepKind, descriptor_number, instruction_at};
 use machine::{Event, Instruction, Setup, State};
 use places::{Place, Stage, Value};
@@ -162,6 +163,16 @@ pub(crate) fn slot_met(setup: &Setup, state: &State, event: Event, before: Befor
     }
 }
 
+// Returns whether the setup has the descriptor, open or closed.
+fn has_descriptor(state: &State, fd: i32) -> bool
+    ensures { result ≡ option_map_or (has_descriptor state.now) (number_in fd) false }
+{
+    match descriptor_number(fd) {
+        Some(number) => state.value(Place::OpenMark(number)).is_some(),
+        None => false,
+    }
+}
+
 /// Returns whether a step of a thread is a finding of this kind. `changes` says whether it changed
 /// a slot; `state` is the state after it.
 pub(crate) fn is_of_step(
@@ -190,6 +201,9 @@ pub(crate) fn is_of_step(
         }
         (StepKind::ClosedWhileHeld, Instruction::Close(fd)) => {
             has_closed(state, thread) && is_held(state, *fd)
+        }
+        (StepKind::ClosedTwice, Instruction::Close(fd)) => {
+            is_refused(EBADF as u64, state, thread) && has_descriptor(state, *fd)
         }
         _ => false,
     }

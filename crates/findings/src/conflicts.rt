@@ -19,8 +19,8 @@ use places::{Place, Value};
 /// The offset -1: the transfer uses the position of its descriptor.
 const AT_POSITION: u64 = 18446744073709551615;
 
-// Returns whether two ranges overlap, each given by its first number and its length.
-fn meet(first: u64, count: u64, other: u64, others: u64) -> bool
+/// Returns whether two ranges overlap, each given by its first number and its length.
+pub(crate) fn meet(first: u64, count: u64, other: u64, others: u64) -> bool
     ensures { result ≡ meet first count other others }
 {
     let start = u128::from(first.max(other));
@@ -28,8 +28,8 @@ fn meet(first: u64, count: u64, other: u64, others: u64) -> bool
     start < end
 }
 
-// Returns how many bytes a request moved; 0 if it is incomplete or failed.
-fn moved(phase: Phase) -> u64
+/// Returns how many bytes a request moved; 0 if it is incomplete or failed.
+pub(crate) fn moved(phase: Phase) -> u64
     ensures { result ≡ moved phase }
 {
     match phase {

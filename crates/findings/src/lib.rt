@@ -15,6 +15,7 @@ mod noting;
 mod ordering;
 mod record;
 mod searching;
+mod timespecs;
 mod transition;
 mod twins;
 mod unsynced;

@@ -4,7 +4,7 @@ ghost use Rattle.std.specs.List.{flat_map};
 ghost use Rattle.std.specs.Option.{option_copied};
 ghost use Rattle.findings.specs.Conditions.{overflows};
 ghost use Rattle.finding_kinds.specs.Programs.{instruction_at};
-ghost use Rattle.findings.specs.Records.{given, of_ended, of_queued, of_row, row_in, of_overflow, of_instruction, of_step, of_canceling, of_cancel, of_candidate, of_number, of_effect};
+ghost use Rattle.findings.specs.Records.{given, of_ended, of_queued, of_row, row_in, of_overflow, of_instruction, of_step, of_canceling, of_cancel, of_candidate, of_number, of_conflicts, of_effect};
 
 use crate::canceling::{Cancel, is_of_cancel};
 use crate::conditions::{is_of_step, overflows};
@@ -12,6 +12,7 @@ use crate::conflicts::conflicts;
 use crate::effect::Effect;
 use crate::ends::{ended_test, queued_test};
 use crate::leftover::row_at;
+use crate::timespecs::add_of_timespecs;
 use crate::transition::Transition;
 use entries::Row;
 use finding_kinds::{
@@ -273,7 +274,24 @@ fn add_of_numbers(
     Ok(())
 }
 
-/// Adds the conflicts of an event with the incomplete READs and WRITEs of these numbers.
+// Adds the conflicts of an event with the incomplete READs and WRITEs of these numbers.
+fn add_of_conflicts(
+    found: &mut Vec<Finding>,
+    at: Transition<'_>,
+    effect: &Effect,
+    numbers: &[u32],
+) -> Result<(), AllocError>
+    ensures { OnOk result (found.new.items ≡ found.old.items ++ of_conflicts at.entry.moment
+        at.entry.setup.now at.entry.state.now effect.now numbers.now) }
+{
+    match effect {
+        Effect::Nothing => Ok(()),
+        _ => add_of_numbers(found, at, effect, numbers),
+    }
+}
+
+/// Adds the findings about the effect of an event: conflicts with the incomplete READs and WRITEs of
+/// these numbers, and timespecs that it overwrote.
 pub(crate) fn add_of_effect(
     found: &mut Vec<Finding>,
     at: Transition<'_>,
@@ -283,8 +301,6 @@ pub(crate) fn add_of_effect(
     ensures { OnOk result (found.new.items ≡ found.old.items ++ of_effect at.entry.moment
         at.entry.setup.now at.entry.state.now effect.now numbers.now) }
 {
-    match effect {
-        Effect::Nothing => Ok(()),
-        _ => add_of_numbers(found, at, effect, numbers),
-    }
+    add_of_conflicts(found, at, effect, numbers)?;
+    add_of_timespecs(found, at.moment, at.state, effect)
 }

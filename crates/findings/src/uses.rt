@@ -17,8 +17,9 @@ use places::value::is_same;
 use places::{Place, Value};
 use ring_words::SubRing;
 
-/// How many of the last pushed indexes a put is compared with. The limit bounds the cost of a step.
-const LOOKED_AT: u32 = 64;
+/// How many of the last pushed indexes a put or a write to memory is compared with. The limit bounds
+/// the cost of a step.
+pub(crate) const LOOKED_AT: u32 = 64;
 
 /// How a request uses a descriptor.
 #[derive(Clone, Copy)]

@@ -1,0 +1,8 @@
+use Rattle.std.proofs.Common.{◌≡◌, ◌++◌, drop, take}
+use Rattle.std.specs.List.{flat_map}
+use Rattle.ring_words.specs.Rings.{sub_list}
+use Rattle.findings.specs.Timespecs.{of_index}
+use Rattle.findings.proofs.timespecs.add_of_indexes.Given as goal
+
+abbrev pub invariant-loop-place : goal.invariant-loop-place
+invariant-loop-place l = l.found.items ≡ l.fn.found.items ++ flat_map (of_index l.moment l.ring.slots l.range) (take l.place (drop l.passed (sub_list l.ring)))

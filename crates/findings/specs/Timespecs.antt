@@ -1,0 +1,54 @@
+-- Timespecs that are overwritten before the kernel reads them. It reads the one of a TIMEOUT or a
+-- LINK_TIMEOUT when it takes the entry (io_uring_enter(2)).
+use Rattle.std.specs.Prelude.{ℕ, ◌×◌, ◌==◌, Bool, false, ◌&&◌, if◌then◌else◌, slice_get, List, []}
+use Rattle.std.specs.Option.{option_map_or}
+use Rattle.std.specs.List.{flat_map}
+use Rattle.entries.specs.declared.entry.Sqe.{Sqe}
+use Rattle.entries.specs.declared.row.Row.{Row}
+use Rattle.opcodes.specs.Opcodes.{is_timer}
+use Rattle.machine.specs.declared.whole.Machine.{Machine}
+use Rattle.finding_kinds.specs.declared.finding.Finding.{Finding}
+use Rattle.finding_kinds.specs.declared.kind.Kind.TheVariants.{TimespecInUse}
+use Rattle.findings.specs.declared.effect.Effect.{Effect}
+use Rattle.findings.specs.declared.effect.Effect.TheVariants.{Nothing, Stored, Finished}
+use Rattle.findings.specs.Conflicts.{meet, moved}
+use Rattle.findings.specs.Given.{given}
+use Rattle.findings.specs.Uses.{is_pushed_last, pushed_last}
+
+-- The bytes of memory that a completed request wrote, by the first address and their number: those
+-- that a READ moved (read(2)).
+abbrev pub read_into : Row → ℕ × ℕ
+read_into row = if row.entry.opcode == 22 then (row.entry.addr, moved row.phase) else (0, 0)
+
+-- The bytes of memory that an event wrote, by the first address and their number.
+abbrev pub written_by : Effect → ℕ × ℕ
+written_by Nothing = (0, 0)
+written_by (Stored address n) = (address, n)
+written_by (Finished r row) = read_into row
+
+-- Whether the timespec of an entry overlaps a range of memory. It has 16 bytes: seconds and
+-- nanoseconds (timespec(3)).
+abbrev pub has_timespec_in : ℕ × ℕ → Sqe → Bool
+has_timespec_in range entry = is_timer entry.opcode && meet range.0 range.1 entry.addr 16
+
+-- Whether the timespec of the entry in a slot does.
+abbrev pub is_over_slot : List Sqe → ℕ × ℕ → ℕ → Bool
+is_over_slot slots range slot = option_map_or (has_timespec_in range) (slice_get slots slot) false
+
+-- Whether the effect of an event overwrites the timespec of the entry in a slot, which is among the
+-- last 64 pushed and not yet taken.
+abbrev pub overwrites : Machine → Effect → ℕ → Bool
+overwrites m Nothing slot = false
+overwrites m effect slot =
+    is_pushed_last m.submissions slot && is_over_slot m.submissions.slots (written_by effect) slot
+
+-- ---- as the search computes them
+
+-- The finding about one pushed index.
+abbrev pub of_index : ℕ → List Sqe → ℕ × ℕ → ℕ → List Finding
+of_index i slots range slot = given (is_over_slot slots range slot) (record { moment = i; kind = TimespecInUse; subject = slot })
+
+-- The findings about all pushed entries.
+abbrev pub of_timespecs : ℕ → Machine → Effect → List Finding
+of_timespecs i m Nothing = []
+of_timespecs i m effect = flat_map (of_index i m.submissions.slots (written_by effect)) (pushed_last m.submissions)
