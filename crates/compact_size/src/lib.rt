@@ -204,7 +204,7 @@ pub fn put_number(out: &mut Vec<u8>, number: u64) -> Result<(), AllocError>
     }
 }
 
-/// Appends a number of 253 or more. It is a separate function so that the test
+/// Appends a number of 253 or more. A function of its own, so that the test
 /// for one byte is inlined.
 #[inline(never)]
 fn put_wide(out: &mut Vec<u8>, number: u64) -> Result<(), AllocError>

@@ -1,4 +1,4 @@
--- Each ending belongs to an unfinished row. Endings have ascending row numbers.
+-- Endings are of unfinished rows, by ascending number.
 use Rattle.std.proofs.Common.{◌≡◌, ℕ, ℤ, zero, suc, Bool, true, false, cond, refl, sym, ◌∙◌, ap, subst, List, [], ◌∷◌, ◌+◌, ◌<◌, arith}
 use Rattle.std.specs.Prelude.{Option, Some, None, slice_get}
 use Rattle.std.specs.List.{cons_option}

@@ -112,7 +112,7 @@ impl Rest {
         }
     }
 
-    /// Returns whether a place has its own note.
+    /// Returns whether a place has a note of its own.
     pub fn names(&self, place: Place) -> bool
         ensures { result ≡ is_some (named self.now.odd place) }
     {
