@@ -10,7 +10,6 @@ pub mod Pending
 pub mod Kinds
 pub mod Schedules
 pub mod Walked
-pub mod Living
 pub mod Failing
 pub use Rattle.command_line.specs.Jobs
 pub use Rattle.commands.specs.Commands

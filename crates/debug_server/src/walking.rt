@@ -91,7 +91,7 @@ fn walk_script<R: Read, W: Write>(
 }
 
 /// Runs events from the start of a setup, and replies to the reader's lines.
-pub(crate) fn walk_events<R: Read, W: Write>(
+pub fn walk_events<R: Read, W: Write>(
     alloc: Global,
     setup: &Setup,
     events: &[Event],

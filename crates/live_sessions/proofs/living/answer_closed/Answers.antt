@@ -1,5 +1,5 @@
-use Rattle.debug_server.proofs.Accepted.{answering}
-use Rattle.debug_server.proofs.living.answer_closed.Goals as goal
+use Rattle.live_sessions.proofs.Accepted.{answering}
+use Rattle.live_sessions.proofs.living.answer_closed.Goals as goal
 
 pub walk_events-requires-clause-starts : goal.walk_events-requires-clause-starts
 walk_events-requires-clause-starts g c = rw c.setup.ensures c.events.ensures.whole.starts

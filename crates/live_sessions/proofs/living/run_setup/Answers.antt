@@ -1,6 +1,6 @@
 use Rattle.live_runner.specs.Actors.{actors}
-use Rattle.debug_server.proofs.Accepted.{running}
-use Rattle.debug_server.proofs.living.run_setup.Goals as goal
+use Rattle.live_sessions.proofs.Accepted.{running}
+use Rattle.live_sessions.proofs.living.run_setup.Goals as goal
 
 pub returns-clause-same : goal.returns-clause-same
 returns-clause-same g c = rw (← c.setup.ensures.value) c.run_live.ensures.same

@@ -8,15 +8,12 @@ ghost use Rattle.script.specs.declared.fault.ScriptFault.{ScriptFault};
 ghost use Rattle.traces.specs.Setups.{canonical, IsTrace2};
 ghost use Rattle.debug_server.specs.declared.faults.ServeFault.{ServeFault};
 ghost use Rattle.debug_server.specs.declared.faults.ServeFault.TheVariants.{Closed as WasClosed};
-ghost use Rattle.debug_server.specs.Living.{IsOfLive, IsOfRunning};
+ghost use Rattle.live_sessions.specs.Living.{IsOfLive, IsOfRunning};
 ghost use Rattle.debug_server.specs.Kinds.{IsOf, is_kind, OfServing, OfMemory};
 ghost use Rattle.debug_server.specs.Transcripts.{streams};
 ghost use Rattle.debug_server.specs.Walked.{Walked, BrokenOff};
 
-use crate::faults::{Fault, RunFault};
-use crate::scripts::script_of;
-use crate::tracing::Traced;
-use crate::walking::walk_events;
+use debug_server::{Fault, RunFault, Traced, script_of, walk_events};
 use live_runner::{AlwaysOpen, Closed, LiveFault, run_live};
 use script::Script;
 use std::alloc::{AllocError, Global};

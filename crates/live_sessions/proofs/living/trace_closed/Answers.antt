@@ -1,5 +1,5 @@
-use Rattle.debug_server.proofs.Accepted.{all_accepted}
-use Rattle.debug_server.proofs.living.trace_closed.Goals as goal
+use Rattle.live_sessions.proofs.Accepted.{all_accepted}
+use Rattle.live_sessions.proofs.living.trace_closed.Goals as goal
 
 pub write_trace2-requires-clause-starts : goal.write_trace2-requires-clause-starts
 write_trace2-requires-clause-starts c = rw c.setup.ensures c.events-events.ensures.whole.starts

@@ -35,7 +35,7 @@ use Rattle.traces.specs.Spelling.{has_transfer}
 use Rattle.debug_server.specs.declared.faults.RunFault.{RunFault}
 use Rattle.debug_server.specs.declared.faults.RunFault.TheVariants.{Script, Schedule, Serve, Memory, Net, Trace}
 use Rattle.debug_server.specs.Kinds.{IsOf, OfSchedule, OfServing, OfMemory}
-use Rattle.debug_server.specs.Living.{IsOfRunning}
+use Rattle.live_sessions.specs.Living.{IsOfRunning}
 use Rattle.live_runner.specs.declared.running.LiveFault.{LiveFault}
 use Rattle.live_runner.specs.declared.running.LiveFault.TheVariants as live
 
