@@ -9,7 +9,7 @@ use Rattle.machine.specs.declared.whole.Machine.{Machine}
 use Rattle.machine.specs.Steps.{after}
 use Rattle.machine.specs.Runs.{moment as machine_at}
 use Rattle.finding_kinds.specs.declared.kind.Kind.{Kind}
-use Rattle.finding_kinds.specs.declared.kind.Kind.TheVariants.{Ended, Overflow, Lasting, Left, Conflict, Step, Queued, Cancel}
+use Rattle.finding_kinds.specs.declared.kind.Kind.TheVariants.{Ended, Overflow, Lasting, Left, Conflict, Step, Queued, Cancel, TimespecInUse, FsyncRetried}
 use Rattle.finding_kinds.specs.declared.kind.EndedKind.{EndedKind}
 use Rattle.finding_kinds.specs.declared.kind.LastingKind.{LastingKind}
 use Rattle.finding_kinds.specs.declared.kind.QueuedKind.{QueuedKind}
@@ -56,6 +56,8 @@ occurs s (Cancel kind) before e next_state n = cancel_shows kind before e next_s
 occurs s (Conflict kind) before e next_state n = clashes s kind before e next_state n
 occurs s (Lasting kind) before e next_state n = false
 occurs s (Left kind) before e next_state n = false
+occurs s TimespecInUse before e next_state n = false
+occurs s FsyncRetried before e next_state n = false
 
 -- Whether event i of a run is a finding about subject n.
 abbrev pub occurs_at : Setup → List Event → ℕ → Kind → ℕ → Bool

@@ -21,6 +21,7 @@ use Rattle.finding_kinds.specs.declared.kind.Kind.{Kind}
 use Rattle.finding_kinds.specs.declared.kind.Kind.TheVariants as group
 use Rattle.finding_kinds.specs.declared.kind.EndedKind.{EndedKind}
 use Rattle.finding_kinds.specs.declared.kind.LeftKind.TheVariants.{Unfinished, NotDurable}
+use Rattle.finding_kinds.specs.declared.kind.Verdict.TheVariants.{Fault, Note}
 use Rattle.finding_kinds.specs.declared.kind.ConflictKind.{ConflictKind}
 use Rattle.finding_kinds.specs.declared.kind.StepKind.{StepKind}
 use Rattle.finding_kinds.specs.declared.kind.QueuedKind.{QueuedKind}
@@ -182,7 +183,7 @@ pub record IsLasting (s : Setup) (es : List Event) (fs : List Finding) : Type 0 
 
 -- A finding if the numbered request is incomplete at the end.
 abbrev pub of_left : ℕ → ℕ × Row → List Finding
-of_left n p = given (is_open p.1) (record { moment = n; kind = group.Left Unfinished; subject = p.0 })
+of_left n p = given (is_open p.1) (record { moment = n; kind = group.Left (Unfinished Fault); subject = p.0 })
 
 -- The findings about all incomplete requests.
 abbrev pub all_left : ℕ → List Row → List Finding
@@ -190,7 +191,7 @@ all_left n rows = flat_map (of_left n) (enumerate_from 0 rows)
 
 -- A finding if the object is a file that isn't durable at the end.
 abbrev pub of_object : ℕ → WorldState → ℕ → List Finding
-of_object n w o = given (has_unsynced w o) (record { moment = n; kind = group.Left NotDurable; subject = o })
+of_object n w o = given (has_unsynced w o) (record { moment = n; kind = group.Left (NotDurable Note); subject = o })
 
 -- The findings about all files that aren't durable.
 abbrev pub all_unsynced : Setup → ℕ → WorldState → List Finding
