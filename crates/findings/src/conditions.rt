@@ -7,6 +7,7 @@ ghost use Rattle.findings.specs.Endings.{is_error, is_less};
 ghost use Rattle.findings.specs.Searching.{facts_before};
 
 use crate::canceling::{Cancel, cancel_before};
+use crate::circumstances::expires_late;
 use crate::uses::{Sought, changes_at, first_pushed, is_held, is_named, is_pushed_last};
 use entries::{EBUSY, EINVAL, IORING_SQ_CQ_OVERFLOW, IORING_SQ_NEED_WAKEUP};
 use finding_kinds::{LastingKind, StepKind, Verdict, descriptor_number, instruction_at};
@@ -24,6 +25,8 @@ pub struct Before {
     pub changes: bool,
     /// The cancel or removal that the event completes.
     pub cancel: Option<Cancel>,
+    /// The event is the expiry of a linked timeout whose target could complete.
+    pub was_ready: bool,
 }
 
 impl Before {
@@ -36,6 +39,7 @@ impl Before {
             counter,
             changes: changes_at(state, instruction_at(setup, event, counter)),
             cancel: cancel_before(state, event),
+            was_ready: expires_late(state, event),
         }
     }
 }
@@ -214,7 +218,9 @@ pub(crate) fn condition_holds(setup: &Setup, kind: LastingKind, state: &State, s
 {
     match kind {
         LastingKind::LostWakeUp => subject == 0 && (needs_wake_up(state) && has_entries(state)),
-        LastingKind::NotTaken(Verdict::Fault) => subject == 0 && (!needs_wake_up(state) && has_entries(state)),
+        LastingKind::NotTaken(Verdict::Fault) => {
+            subject == 0 && (!needs_wake_up(state) && has_entries(state))
+        }
         LastingKind::NotReaped => subject == 0 && (overflows(state) || has_completions(state)),
         LastingKind::Waits(Verdict::Fault) => waits(setup, state, subject),
         _ => false,

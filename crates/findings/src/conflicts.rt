@@ -28,8 +28,8 @@ fn meet(first: u64, count: u64, other: u64, others: u64) -> bool
     start < end
 }
 
-// Returns how many bytes a request moved; 0 if it is incomplete or failed.
-fn moved(phase: Phase) -> u64
+/// Returns how many bytes a request moved; 0 if it is incomplete or failed.
+pub(crate) fn moved(phase: Phase) -> u64
     ensures { result ≡ moved phase }
 {
     match phase {
@@ -74,7 +74,8 @@ fn is_by_position(setup: &Setup, first: &Sqe, second: &Sqe) -> bool
             && (is_same_descriptor(first, second) && is_same_file(setup, first, second)))
 }
 
-fn number_or_zero(value: Option<Value>) -> u64
+/// Returns the number in an optional value, or 0.
+pub(crate) fn number_or_zero(value: Option<Value>) -> u64
     ensures { result ≡ number_or_zero value }
 {
     match value {
@@ -93,8 +94,8 @@ fn position_at(state: &State, entry: &Sqe) -> u64
     }
 }
 
-// Returns the file offset at which a transfer of `count` bytes began, by the state after it.
-fn begins(state: &State, count: u64, entry: &Sqe) -> u64
+/// Returns the file offset at which a transfer of `count` bytes began, by the state after it.
+pub(crate) fn begins(state: &State, count: u64, entry: &Sqe) -> u64
     ensures { result ≡ begins state.now count entry.now }
 {
     if is_at_position(entry) {
