@@ -89,12 +89,12 @@ expires_late m (Expire g) = option_map_or (has_ready_target m) (slice_get m.tabl
 expires_late m e = false
 
 -- Whether a request completed with ECANCELED.
-abbrev pub is_canceled : Row → Bool
-is_canceled row = option_map_or (is_error 125) (result_in row.phase) false
+abbrev pub was_canceled : Row → Bool
+was_canceled row = option_map_or (is_error 125) (result_in row.phase) false
 
 -- Whether the target of a request completed with ECANCELED, by all requests after the event.
 abbrev pub has_canceled_target : List Row → Row → Bool
-has_canceled_target rows row = option_map_or (λ t. option_map_or is_canceled (slice_get rows t) false) row.target false
+has_canceled_target rows row = option_map_or (λ t. option_map_or was_canceled (slice_get rows t) false) row.target false
 
 -- ---- all of them
 

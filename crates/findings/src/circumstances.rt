@@ -5,7 +5,8 @@ ghost use Rattle.std.specs.Option.{option_map_or};
 ghost use Rattle.std.specs.List.{list_any};
 ghost use Rattle.links_drains.specs.Holding.{is_number};
 ghost use Rattle.findings.specs.Endings.{is_right};
-ghost use Rattle.findings.specs.Completions.{ends_before, is_short_of_end, is_later, member_of, limits, expires_over, could_finish, has_ready_target, expires_late, is_canceled, has_canceled_target};
+ghost use Rattle.findings.specs.Conflicts.{moved, file_of};
+ghost use Rattle.findings.specs.Completions.{ends_before, is_short_of_end, is_later, member_of, limits, expires_over, could_finish, has_ready_target, expires_late, was_canceled, has_canceled_target};
 ghost use Rattle.findings.specs.Records.{noted};
 
 use crate::completed::{Completed, Member};
@@ -42,18 +43,24 @@ fn ends_before(state: &State, count: u64, row: &Row, object: u32) -> bool
     end < u128::from(number_or_zero(state.value(Place::FileLength(object))))
 }
 
+// Returns whether the transfer is of a regular file and stopped before the file's end.
+fn stopped_early(at: Transition<'_>, row: &Row) -> bool
+    ensures { result ≡ option_map_or
+        (ends_before at.entry.state.now (moved row.now.phase) row.now.entry)
+        (file_of at.entry.setup.now row.now.entry.fd) false }
+{
+    match file_of(at.setup, row.entry.fd) {
+        Some(object) => ends_before(at.state, moved(row.phase), row, object),
+        None => false,
+    }
+}
+
 /// Returns whether the request is a WRITE, or a READ of a regular file that stopped before the
 /// file's end.
 pub(crate) fn is_short_of_end(at: Transition<'_>, row: &Row) -> bool
     ensures { result ≡ is_short_of_end at.entry.setup.now at.entry.state.now row.now }
 {
-    if row.entry.opcode == Op::Write as u8 {
-        return true;
-    }
-    match file_of(at.setup, row.entry.fd) {
-        Some(object) => ends_before(at.state, moved(row.phase), row, object),
-        None => false,
-    }
+    row.entry.opcode == Op::Write as u8 || stopped_early(at, row)
 }
 
 // ---- chains
@@ -195,8 +202,8 @@ pub(crate) fn expires_late(state: &State, event: Event) -> bool
     }
 }
 
-fn is_canceled_row(row: &Row) -> bool
-    ensures { result ≡ is_canceled row.now }
+fn was_canceled(row: &Row) -> bool
+    ensures { result ≡ was_canceled row.now }
 {
     match result_in(row.phase) {
         Some(res) => is_canceled(res),
@@ -204,11 +211,11 @@ fn is_canceled_row(row: &Row) -> bool
     }
 }
 
-fn is_canceled_at(state: &State, number: u32) -> bool
-    ensures { result ≡ option_map_or is_canceled (slice_get state.now.table number) false }
+fn was_canceled_at(state: &State, number: u32) -> bool
+    ensures { result ≡ option_map_or was_canceled (slice_get state.now.table number) false }
 {
     match row_at(state, number) {
-        Some(row) => is_canceled_row(&row),
+        Some(row) => was_canceled(&row),
         None => false,
     }
 }
@@ -217,7 +224,7 @@ fn has_canceled_target(state: &State, row: &Row) -> bool
     ensures { result ≡ has_canceled_target state.now.table row.now }
 {
     match row.target {
-        Some(target) => is_canceled_at(state, target),
+        Some(target) => was_canceled_at(state, target),
         None => false,
     }
 }
