@@ -1,5 +1,5 @@
 -- The circumstances that the search notes for a completed request are those of the event.
-use Rattle.std.proofs.Common.{◌≡◌, ◌⊎◌, inl, inr, ℕ, Bool, true, false, cond, List, [], ◌∷◌, ◌++◌, refl, sym, ap, ◌∙◌}
+use Rattle.std.proofs.Common.{◌≡◌, ◌⊎◌, inl, inr, ℕ, Bool, true, false, List, [], ◌∷◌, ◌++◌, refl, sym, ap, ◌∙◌, subst}
 use Rattle.std.proofs.lemmas.Bool.{and_parts, and_from, and_right, or_left, or_right, or_cases, false_from_ne_true}
 use Rattle.std.proofs.lemmas.List.Folds.{list_any-append}
 use Rattle.std.specs.Prelude.{Option, Some, None, option_map, slice_get, ◌&&◌, ◌||◌, not}
@@ -23,7 +23,7 @@ use Rattle.finding_kinds.specs.declared.finding.Finding.{Finding}
 use Rattle.findings.specs.declared.completed.Member.{Member}
 use Rattle.findings.specs.Endings.{Circumstances, ending_of, is_error, severs}
 use Rattle.findings.specs.Completions.{is_short_of_end, is_severing, is_dropped, is_later, member_of, any_passes, severs_others, is_severed, is_expiry_of, expires_over, expires_late, has_canceled_target, circumstances}
-use Rattle.findings.specs.Records.{row_in, of_place, of_change, of_row, member_if, members_at, members_of, noted}
+use Rattle.findings.specs.Records.{row_in, of_place, of_change, of_row, member_if, members_at, members_of, is_severed_in, noted}
 use Rattle.findings.specs.Searching.{facts_before}
 use Rattle.findings.proofs.Members.{Has, has_flat_map}
 use Rattle.findings.proofs.Notes.{AreTrue, true_notes}
@@ -121,27 +121,31 @@ dropped_changes row = and_right (not (is_guard row)) _ (not_completed row (is_er
 abbrev all_told : Bool → Bool → Bool → Bool → Circumstances
 all_told a b c d = record { short_of_end = a; severs_others = b; is_named = c; was_ready = d }
 
+-- The lists that the record of an event gives.
+abbrev severing_in : Machine → List Change → List Member
+severing_in next_state cs = flat_map (members_of is_severing next_state.table) cs
+
+abbrev canceled_in : Machine → List Change → List Member
+canceled_in next_state cs = flat_map (members_of is_dropped next_state.table) cs
+
+module _ (before next_state : Machine) (cs : List Change) (x : Exact (view before) (view next_state) cs) (once : NamesOnce cs) where
+  others_severed : (y : Member) → list_any (is_later y) (canceled_in next_state cs) ≡ severs_others before.table next_state.table y
+  others_severed y = members_pass before next_state is_dropped (is_later y) cs dropped_changes x once
+
+  was_severed : (y : Member) → is_severed_in (severing_in next_state cs) (canceled_in next_state cs) y ≡ is_severed before.table next_state.table y
+  was_severed y =
+      any_alike (λ (z : Member). is_later z y && list_any (is_later z) (canceled_in next_state cs)) (λ (z : Member). is_later z y && severs_others before.table next_state.table z)
+      (λ z. ap (λ (b : Bool). is_later z y && b) (others_severed z)) (severing_in next_state cs)
+      ∙ members_pass before next_state is_severing (λ (z : Member). is_later z y && severs_others before.table next_state.table z) cs severing_changes x once
+
 -- What is noted of an event is its circumstances.
 pub noted_told : (s : Setup) (before : Machine) (e : Event) (next_state : Machine) (cs : List Change) (r : ℕ) (row : Row) → Exact (view before) (view next_state) cs → NamesOnce cs
-    → noted s (flat_map (members_of is_severing next_state.table) cs) (flat_map (members_of is_dropped next_state.table) cs) (facts_before s before e) e next_state r row ≡ circumstances s before e next_state r row
+    → noted s (severing_in next_state cs) (canceled_in next_state cs) (facts_before s before e) e next_state r row ≡ circumstances s before e next_state r row
 noted_told s before e next_state cs r row x once =
-    ap (λ (b : Bool). all_told (is_short_of_end s next_state row) b is_named_noted ready) (others (member_of r row))
-    ∙ ap (λ (b : Bool). all_told (is_short_of_end s next_state row) (severs_others before.table next_state.table (member_of r row)) (b || expires_over next_state.table e r) ready) severed
-  where
-    ready : Bool
-    ready = is_expiry_of r e && (expires_late before e && has_canceled_target next_state.table row)
-
-    is_named_noted : Bool
-    is_named_noted = list_any (λ (y : Member). is_later y (member_of r row) && list_any (is_later y) (flat_map (members_of is_dropped next_state.table) cs)) (flat_map (members_of is_severing next_state.table) cs) || expires_over next_state.table e r
-
-    others : (y : Member) → list_any (is_later y) (flat_map (members_of is_dropped next_state.table) cs) ≡ severs_others before.table next_state.table y
-    others y = members_pass before next_state is_dropped (is_later y) cs dropped_changes x once
-
-    severed : list_any (λ (y : Member). is_later y (member_of r row) && list_any (is_later y) (flat_map (members_of is_dropped next_state.table) cs)) (flat_map (members_of is_severing next_state.table) cs) ≡ is_severed before.table next_state.table (member_of r row)
-    severed =
-        any_alike (λ (y : Member). is_later y (member_of r row) && list_any (is_later y) (flat_map (members_of is_dropped next_state.table) cs)) (λ (y : Member). is_later y (member_of r row) && severs_others before.table next_state.table y)
-        (λ y. ap (λ (b : Bool). is_later y (member_of r row) && b) (others y)) (flat_map (members_of is_severing next_state.table) cs)
-        ∙ members_pass before next_state is_severing (λ (y : Member). is_later y (member_of r row) && severs_others before.table next_state.table y) cs severing_changes x once
+    let ready = is_expiry_of r e && (expires_late before e && has_canceled_target next_state.table row) in
+    let over = expires_over next_state.table e r in
+    ap (λ (b : Bool). all_told (is_short_of_end s next_state row) b (is_severed_in (severing_in next_state cs) (canceled_in next_state cs) (member_of r row) || over) ready) (others_severed before next_state cs x once (member_of r row))
+    ∙ ap (λ (b : Bool). all_told (is_short_of_end s next_state row) (severs_others before.table next_state.table (member_of r row)) (b || over) ready) (was_severed before next_state cs x once (member_of r row))
 
 -- ---- findings
 

@@ -107,6 +107,11 @@ members_at test rows before _ = []
 abbrev pub members_of : (Option Row → Row → Bool) → List Row → Change → List Member
 members_of test rows c = members_at test rows c.old c.place
 
+-- Whether an earlier request severed the chain of x and canceled a later one, by the requests of an
+-- event that did so (`severing`) and those that were canceled.
+abbrev pub is_severed_in : List Member → List Member → Member → Bool
+is_severed_in severing canceled x = list_any (λ y. is_later y x && list_any (is_later y) canceled) severing
+
 -- The circumstances in which an event completes request r, by the requests that the event completed
 -- and that severed their chain (`severing`) or were canceled (`canceled`), and by the facts that
 -- were noted before it.
@@ -114,7 +119,7 @@ abbrev pub noted : Setup → List Member → List Member → Before → Event �
 noted s severing canceled b e after r row = record {
   short_of_end = is_short_of_end s after row;
   severs_others = list_any (is_later (member_of r row)) canceled;
-  is_named = list_any (λ x. is_later x (member_of r row) && list_any (is_later x) canceled) severing || expires_over after.table e r;
+  is_named = is_severed_in severing canceled (member_of r row) || expires_over after.table e r;
   was_ready = is_expiry_of r e && (b.was_ready && has_canceled_target after.table row);
 }
 

@@ -7,7 +7,7 @@ ghost use Rattle.links_drains.specs.Holding.{is_number};
 ghost use Rattle.findings.specs.Endings.{is_right};
 ghost use Rattle.findings.specs.Conflicts.{moved, file_of};
 ghost use Rattle.findings.specs.Completions.{ends_before, is_short_of_end, is_later, member_of, limits, expires_over, could_finish, has_ready_target, expires_late, was_canceled, has_canceled_target};
-ghost use Rattle.findings.specs.Records.{noted};
+ghost use Rattle.findings.specs.Records.{is_severed_in, noted};
 
 use crate::completed::{Completed, Member};
 use crate::conflicts::{begins, moved, number_or_zero};
@@ -104,8 +104,7 @@ fn severs(canceled: &[Member], member: Member, other: Member) -> bool
 
 // Returns whether an earlier request of the chain severed it.
 fn is_severed(severing: &[Member], canceled: &[Member], member: Member) -> bool
-    ensures { result ≡ list_any (λ x. is_later x member && list_any (is_later x) canceled.now)
-        severing.now }
+    ensures { result ≡ is_severed_in severing.now canceled.now member }
 {
     severing
         .iter()
