@@ -6,6 +6,7 @@ use Rattle.std.proofs.lemmas.Option.{slice_get_past}
 use Rattle.std.specs.Prelude.{option_map}
 use Rattle.std.specs.Option.{option_map_or}
 use Rattle.std.specs.List.{All, Contains, flat_map}
+use Rattle.entries.specs.declared.row.Row.{Row}
 use Rattle.places.specs.declared.value.Change.{Change}
 use Rattle.places.specs.View.{NamesOnce}
 use Rattle.scenario.specs.declared.event.Event.{Event}
@@ -19,12 +20,15 @@ use Rattle.finding_kinds.specs.declared.finding.Finding.{Finding}
 use Rattle.finding_kinds.specs.declared.kind.Kind.{Kind}
 use Rattle.finding_kinds.specs.declared.kind.Kind.TheVariants.{Ended, Overflow, Conflict, Step, Queued, Cancel, TimespecInUse}
 use Rattle.finding_kinds.specs.Programs.{instruction_at}
+use Rattle.findings.specs.declared.completed.Member.{Member}
 use Rattle.findings.specs.declared.conditions.Before.{Before}
 use Rattle.findings.specs.declared.watching.Watch.{Watch}
+use Rattle.findings.specs.Endings.{Circumstances}
+use Rattle.findings.specs.Completions.{is_severing, is_dropped, circumstances}
 use Rattle.findings.specs.Conditions.{overflows}
 use Rattle.findings.specs.Conflicts.{done_as, done_at}
 use Rattle.findings.specs.Findings.{occurs, occurs_at, Lasts, IsLeft, IsFinding, IsReportOf, Rises}
-use Rattle.findings.specs.Records.{of_change, of_overflow, of_step, of_cancel, of_event, of_effect, after_notes, Covers, Adds, FoundBefore, IsLasting, AreLeft, IsAll, all_left, all_unsynced, SameFindings}
+use Rattle.findings.specs.Records.{members_of, noted, of_change, of_overflow, of_step, of_cancel, of_event, of_effect, after_notes, Covers, Adds, FoundBefore, IsLasting, AreLeft, IsAll, all_left, all_unsynced, SameFindings}
 use Rattle.findings.specs.Searching.{facts_before, NotesFacts, HasSearched}
 use Rattle.findings.specs.Watched.{advanced, watched, of_lasting}
 use Rattle.findings.proofs.Lasting.{watched_first, advanced_more, lasting_reported}
@@ -32,6 +36,7 @@ use Rattle.findings.proofs.Left.{all_at_end}
 use Rattle.findings.proofs.WouldConflict.{effect_done, effect_there, timespec_there}
 use Rattle.findings.proofs.Candidates.{covers_more, covers_none}
 use Rattle.findings.proofs.Groups.{the_finding}
+use Rattle.findings.proofs.Noted.{noted_told, changes_alike}
 use Rattle.findings.proofs.Members.{Has, has_left, has_right, has_contains}
 use Rattle.findings.proofs.Shown.{IsShown, record_shown, ended_there, queued_there, event_shown, event_overflow, event_step, event_cancel}
 
@@ -67,8 +72,8 @@ moved : (s : Setup) (es : List Event) (i : ℕ) (f : Finding) → f.moment ≡ i
 moved s es i f h = ap (λ (k : ℕ). occurs_at s es k f.kind f.subject) h
 
 -- The findings that an event adds: about requests, and about conflicts.
-abbrev of_rows : ℕ → Machine → List Change → List Finding
-of_rows i next_state cs = flat_map (of_change i next_state.table) cs
+abbrev of_rows : Setup → ℕ → Machine → Event → Machine → List Change → List Finding
+of_rows s i before e next_state cs = flat_map (of_change i (circumstances s before e next_state) next_state.table) cs
 
 abbrev of_effects : Setup → ℕ → Machine → Event → Machine → List ℕ → List Finding
 of_effects s i before e next_state numbers = of_effect i s next_state (done_at s before e next_state) numbers
@@ -77,9 +82,9 @@ found_more : (s : Setup) (es : List Event) (i : ℕ) (e : Event) (fs gs : List F
     → Adds s i (machine_at s es i) e (after (machine_at s es i) e) fs gs numbers now → FoundBefore s es (i + 1) gs
 found_more s es i e fs gs numbers now there h covered adds = record {
   only = subst (All (IsEarly s es (i + 1))) (sym adds.added)
-      (All-append (IsEarly s es (i + 1)) ((fs ++ of_rows i (after (machine_at s es i) e) adds.past) ++ of_event s i (machine_at s es i) e (after (machine_at s es i) e)) (of_effects s i (machine_at s es i) e (after (machine_at s es i) e) now)
-      (All-append (IsEarly s es (i + 1)) (fs ++ of_rows i (after (machine_at s es i) e) adds.past) (of_event s i (machine_at s es i) e (after (machine_at s es i) e))
-      (All-append (IsEarly s es (i + 1)) fs (of_rows i (after (machine_at s es i) e) adds.past) earlier rows_reported) rings_reported) effects_reported);
+      (All-append (IsEarly s es (i + 1)) ((fs ++ of_rows s i (machine_at s es i) e (after (machine_at s es i) e) adds.past) ++ of_event s i (machine_at s es i) e (after (machine_at s es i) e)) (of_effects s i (machine_at s es i) e (after (machine_at s es i) e) now)
+      (All-append (IsEarly s es (i + 1)) (fs ++ of_rows s i (machine_at s es i) e (after (machine_at s es i) e) adds.past) (of_event s i (machine_at s es i) e (after (machine_at s es i) e))
+      (All-append (IsEarly s es (i + 1)) fs (of_rows s i (machine_at s es i) e (after (machine_at s es i) e) adds.past) earlier rows_reported) rings_reported) effects_reported);
   whole = λ f l k. subst (λ (xs : List Finding). Contains xs f) (sym adds.added) (member f l k);
 }
   where
@@ -92,7 +97,7 @@ found_more s es i e fs gs numbers now there h covered adds = record {
     shown_reported : (xs : List Finding) → All (IsShown s i (machine_at s es i) e (after (machine_at s es i) e)) xs → All (IsEarly s es (i + 1)) xs
     shown_reported = All-weaker (IsShown s i (machine_at s es i) e (after (machine_at s es i) e)) (IsEarly s es (i + 1)) (λ f p. reported f p.0 p.1)
 
-    rows_reported : All (IsEarly s es (i + 1)) (of_rows i (after (machine_at s es i) e) adds.past)
+    rows_reported : All (IsEarly s es (i + 1)) (of_rows s i (machine_at s es i) e (after (machine_at s es i) e) adds.past)
     rows_reported = shown_reported _ (record_shown s i (machine_at s es i) e (after (machine_at s es i) e) adds.past adds.exact adds.once)
 
     rings_reported : All (IsEarly s es (i + 1)) (of_event s i (machine_at s es i) e (after (machine_at s es i) e))
@@ -104,32 +109,32 @@ found_more s es i e fs gs numbers now there h covered adds = record {
     back : (f : Finding) → f.moment ≡ i → (xs : List Finding) → Has xs (record { moment = i; kind = f.kind; subject = f.subject }) → Has xs f
     back f same xs has = subst (λ (k : ℕ). Has xs (record { moment = k; kind = f.kind; subject = f.subject })) (sym same) has
 
-    in_rows : (f : Finding) → Has (of_rows i (after (machine_at s es i) e) adds.past) f → Has (((fs ++ of_rows i (after (machine_at s es i) e) adds.past) ++ of_event s i (machine_at s es i) e (after (machine_at s es i) e)) ++ of_effects s i (machine_at s es i) e (after (machine_at s es i) e) now) f
-    in_rows f h = has_left ((fs ++ of_rows i (after (machine_at s es i) e) adds.past) ++ of_event s i (machine_at s es i) e (after (machine_at s es i) e)) _ f (has_left (fs ++ of_rows i (after (machine_at s es i) e) adds.past) _ f (has_right fs _ f h))
+    in_rows : (f : Finding) → Has (of_rows s i (machine_at s es i) e (after (machine_at s es i) e) adds.past) f → Has (((fs ++ of_rows s i (machine_at s es i) e (after (machine_at s es i) e) adds.past) ++ of_event s i (machine_at s es i) e (after (machine_at s es i) e)) ++ of_effects s i (machine_at s es i) e (after (machine_at s es i) e) now) f
+    in_rows f h = has_left ((fs ++ of_rows s i (machine_at s es i) e (after (machine_at s es i) e) adds.past) ++ of_event s i (machine_at s es i) e (after (machine_at s es i) e)) _ f (has_left (fs ++ of_rows s i (machine_at s es i) e (after (machine_at s es i) e) adds.past) _ f (has_right fs _ f h))
 
-    in_event : (f : Finding) → Has (of_event s i (machine_at s es i) e (after (machine_at s es i) e)) f → Has (((fs ++ of_rows i (after (machine_at s es i) e) adds.past) ++ of_event s i (machine_at s es i) e (after (machine_at s es i) e)) ++ of_effects s i (machine_at s es i) e (after (machine_at s es i) e) now) f
-    in_event f h = has_left ((fs ++ of_rows i (after (machine_at s es i) e) adds.past) ++ of_event s i (machine_at s es i) e (after (machine_at s es i) e)) _ f (has_right (fs ++ of_rows i (after (machine_at s es i) e) adds.past) _ f h)
+    in_event : (f : Finding) → Has (of_event s i (machine_at s es i) e (after (machine_at s es i) e)) f → Has (((fs ++ of_rows s i (machine_at s es i) e (after (machine_at s es i) e) adds.past) ++ of_event s i (machine_at s es i) e (after (machine_at s es i) e)) ++ of_effects s i (machine_at s es i) e (after (machine_at s es i) e) now) f
+    in_event f h = has_left ((fs ++ of_rows s i (machine_at s es i) e (after (machine_at s es i) e) adds.past) ++ of_event s i (machine_at s es i) e (after (machine_at s es i) e)) _ f (has_right (fs ++ of_rows s i (machine_at s es i) e (after (machine_at s es i) e) adds.past) _ f h)
 
-    occurs_there : (kind : Kind) (n : ℕ) → is_shown s (machine_at s es i) e kind n ≡ true → Has (((fs ++ of_rows i (after (machine_at s es i) e) adds.past) ++ of_event s i (machine_at s es i) e (after (machine_at s es i) e)) ++ of_effects s i (machine_at s es i) e (after (machine_at s es i) e) now) (the_finding i kind n)
-    occurs_there (Ended kind) n k = in_rows _ (ended_there i (machine_at s es i) (after (machine_at s es i) e) adds.past kind n adds.exact k)
-    occurs_there (Queued kind) n k = in_rows _ (queued_there i (machine_at s es i) (after (machine_at s es i) e) adds.past kind n adds.exact k)
+    occurs_there : (kind : Kind) (n : ℕ) → is_shown s (machine_at s es i) e kind n ≡ true → Has (((fs ++ of_rows s i (machine_at s es i) e (after (machine_at s es i) e) adds.past) ++ of_event s i (machine_at s es i) e (after (machine_at s es i) e)) ++ of_effects s i (machine_at s es i) e (after (machine_at s es i) e) now) (the_finding i kind n)
+    occurs_there (Ended kind) n k = in_rows _ (ended_there s i (machine_at s es i) e (after (machine_at s es i) e) adds.past kind n adds.exact k)
+    occurs_there (Queued kind) n k = in_rows _ (queued_there s i (machine_at s es i) e (after (machine_at s es i) e) adds.past kind n adds.exact k)
     occurs_there Overflow n k = in_event _ (event_overflow s i (machine_at s es i) e (after (machine_at s es i) e) n k)
     occurs_there (Step kind) n k = in_event _ (event_step s i (machine_at s es i) e (after (machine_at s es i) e) kind n k)
     occurs_there (Cancel kind) n k = in_event _ (event_cancel s i (machine_at s es i) e (after (machine_at s es i) e) kind n k)
-    occurs_there (Conflict kind) n k = has_right ((fs ++ of_rows i (after (machine_at s es i) e) adds.past) ++ of_event s i (machine_at s es i) e (after (machine_at s es i) e)) _ _ (effect_there i s (after (machine_at s es i) e) (done_at s (machine_at s es i) e (after (machine_at s es i) e)) now kind n covered k)
-    occurs_there TimespecInUse n k = has_right ((fs ++ of_rows i (after (machine_at s es i) e) adds.past) ++ of_event s i (machine_at s es i) e (after (machine_at s es i) e)) _ _ (timespec_there i s (after (machine_at s es i) e) (done_at s (machine_at s es i) e (after (machine_at s es i) e)) now n k)
+    occurs_there (Conflict kind) n k = has_right ((fs ++ of_rows s i (machine_at s es i) e (after (machine_at s es i) e) adds.past) ++ of_event s i (machine_at s es i) e (after (machine_at s es i) e)) _ _ (effect_there i s (after (machine_at s es i) e) (done_at s (machine_at s es i) e (after (machine_at s es i) e)) now kind n covered k)
+    occurs_there TimespecInUse n k = has_right ((fs ++ of_rows s i (machine_at s es i) e (after (machine_at s es i) e) adds.past) ++ of_event s i (machine_at s es i) e (after (machine_at s es i) e)) _ _ (timespec_there i s (after (machine_at s es i) e) (done_at s (machine_at s es i) e (after (machine_at s es i) e)) now n k)
     occurs_there _ n k = absurd (false_true k)
 
-    now_reported : (f : Finding) → f.moment ≡ i → occurs_at s es f.moment f.kind f.subject ≡ true → Has (((fs ++ of_rows i (after (machine_at s es i) e) adds.past) ++ of_event s i (machine_at s es i) e (after (machine_at s es i) e)) ++ of_effects s i (machine_at s es i) e (after (machine_at s es i) e) now) f
+    now_reported : (f : Finding) → f.moment ≡ i → occurs_at s es f.moment f.kind f.subject ≡ true → Has (((fs ++ of_rows s i (machine_at s es i) e (after (machine_at s es i) e) adds.past) ++ of_event s i (machine_at s es i) e (after (machine_at s es i) e)) ++ of_effects s i (machine_at s es i) e (after (machine_at s es i) e) now) f
     now_reported f same k = back f same _ (occurs_there f.kind f.subject (sym (at_moment s es i e f.kind f.subject there) ∙ sym (moved s es i f same) ∙ k))
 
     member : (f : Finding) → f.moment < i + 1 → occurs_at s es f.moment f.kind f.subject ≡ true
-        → Contains (((fs ++ of_rows i (after (machine_at s es i) e) adds.past) ++ of_event s i (machine_at s es i) e (after (machine_at s es i) e)) ++ of_effects s i (machine_at s es i) e (after (machine_at s es i) e) now) f
+        → Contains (((fs ++ of_rows s i (machine_at s es i) e (after (machine_at s es i) e) adds.past) ++ of_event s i (machine_at s es i) e (after (machine_at s es i) e)) ++ of_effects s i (machine_at s es i) e (after (machine_at s es i) e) now) f
     member f l k =
         elim (cases_order f.moment i) [
           | inl same ↦ has_contains _ f (now_reported f same k)
-          | inr (inl before) ↦ Contains-append_left ((fs ++ of_rows i (after (machine_at s es i) e) adds.past) ++ of_event s i (machine_at s es i) e (after (machine_at s es i) e)) _ f
-              (Contains-append_left (fs ++ of_rows i (after (machine_at s es i) e) adds.past) _ f (Contains-append_left fs _ f (h.whole f before k)))
+          | inr (inl before) ↦ Contains-append_left ((fs ++ of_rows s i (machine_at s es i) e (after (machine_at s es i) e) adds.past) ++ of_event s i (machine_at s es i) e (after (machine_at s es i) e)) _ f
+              (Contains-append_left (fs ++ of_rows s i (machine_at s es i) e (after (machine_at s es i) e) adds.past) _ f (Contains-append_left fs _ f (h.whole f before k)))
           | inr (inr past) ↦ absurd (omega arith)
         ]
 
@@ -138,17 +143,18 @@ facts_are : (s : Setup) (es : List Event) (i : ℕ) (e : Event) (b : Before) →
 facts_are s es i e b there h = ap (λ (o : Option Before). option_map_or (λ (x : Before). x) o b) (sym (ap (option_map (facts_before s (machine_at s es i))) there) ∙ h)
 
 -- What an event adds to the findings, by the facts that were noted before it.
-abbrev added_by : Setup → ℕ → Before → Event → Machine → List Change → List Finding → List ℕ → List Finding
-added_by s i b e n past fs now =
-    ((fs ++ flat_map (of_change i n.table) past)
+abbrev added_by : Setup → ℕ → (ℕ → Row → Circumstances) → Before → Event → Machine → List Change → List Finding → List ℕ → List Finding
+added_by s i told b e n past fs now =
+    ((fs ++ flat_map (of_change i told n.table) past)
     ++ (of_overflow i b.overflows (overflows n) ++ (of_step i b.changes (instruction_at s e b.counter) e n ++ of_cancel i b.cancel n.table)))
     ++ of_effect i s n (done_as e (instruction_at s e b.counter) n) now
 
 -- After one more event.
-pub seen_more : (s : Setup) (es : List Event) (i : ℕ) (n : Machine) (e : Event) (b : Before) (past : List Change) (fs gs : List Finding) (numbers now : List ℕ) (ws xs : List Watch)
-    → HasSearched s es i fs numbers ws → NotesFacts s es i b → IsAfter s es i e past n → gs ≡ added_by s i b e n past fs now → NamesOnce past → now ≡ after_notes (view n) numbers past
+pub seen_more : (s : Setup) (es : List Event) (i : ℕ) (n : Machine) (e : Event) (b : Before) (past : List Change) (severing canceled : List Member) (fs gs : List Finding) (numbers now : List ℕ) (ws xs : List Watch)
+    → HasSearched s es i fs numbers ws → NotesFacts s es i b → IsAfter s es i e past n → severing ≡ flat_map (members_of is_severing n.table) past → canceled ≡ flat_map (members_of is_dropped n.table) past
+    → gs ≡ added_by s i (noted s severing canceled b e n) b e n past fs now → NamesOnce past → now ≡ after_notes (view n) numbers past
     → xs ≡ map (advanced s n (i + 1)) ws → HasSearched s es (i + 1) gs now xs
-seen_more s es i n e b past fs gs numbers now ws xs h noted at added once further w = record {
+seen_more s es i n e b past severing canceled fs gs numbers now ws xs h facts at severing_is canceled_is added once further w = record {
   most = h.most;
   found = found_more s es i e fs gs numbers now at.there h.found (subst (λ (x : Machine). Covers x.table now) next_state covered) (subst (λ (x : Machine). Adds s i (machine_at s es i) e x fs gs numbers now) next_state adds);
   covered = subst (λ (x : Machine). Covers x.table now) at.at.here covered;
@@ -161,6 +167,18 @@ seen_more s es i n e b past fs gs numbers now ws xs h noted at added once furthe
     next_state : n ≡ after (machine_at s es i) e
     next_state = at.link.next.changed
 
+    same_facts : facts_before s (machine_at s es i) e ≡ b
+    same_facts = facts_are s es i e b at.there facts
+
+    told : (r : ℕ) (row : Row) → noted s severing canceled (facts_before s (machine_at s es i) e) e n r row ≡ circumstances s (machine_at s es i) e n r row
+    told r row =
+        ap (λ (ms : List Member). noted s ms canceled (facts_before s (machine_at s es i) e) e n r row) severing_is
+        ∙ ap (λ (ms : List Member). noted s (flat_map (members_of is_severing n.table) past) ms (facts_before s (machine_at s es i) e) e n r row) canceled_is
+        ∙ noted_told s (machine_at s es i) e n past r row at.exact once
+
+    rows_same : flat_map (of_change i (noted s severing canceled (facts_before s (machine_at s es i) e) e n) n.table) past ≡ flat_map (of_change i (circumstances s (machine_at s es i) e n) n.table) past
+    rows_same = changes_alike i (noted s severing canceled (facts_before s (machine_at s es i) e) e n) (circumstances s (machine_at s es i) e n) told n.table past
+
     covered : Covers n.table now
     covered = covers_more (machine_at s es i) n past numbers now h.covered at.exact further
 
@@ -169,7 +187,9 @@ seen_more s es i n e b past fs gs numbers now ws xs h noted at added once furthe
       past = past;
       exact = at.exact;
       once = once;
-      added = added ∙ ap (λ (x : Before). added_by s i x e n past fs now) (sym (facts_are s es i e b at.there noted));
+      added =
+          added ∙ ap (λ (x : Before). added_by s i (noted s severing canceled x e n) x e n past fs now) (sym same_facts)
+          ∙ ap (λ (ys : List Finding). ((fs ++ ys) ++ of_event s i (machine_at s es i) e n) ++ of_effect i s n (done_at s (machine_at s es i) e n) now) rows_same;
       further = further;
     }
 

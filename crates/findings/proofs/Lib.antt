@@ -2,6 +2,7 @@ pub mod Members
 pub mod Groups
 pub mod Notes
 pub mod Shown
+pub mod Noted
 pub mod Candidates
 pub mod Passing
 pub mod Waiting

@@ -1,5 +1,5 @@
--- Changes that are of no request add no findings.
-use Rattle.std.proofs.Common.{◌≡◌, ℕ, ◌+◌, true, false, List, [], ◌∷◌, ◌++◌, refl, sym, ap, ◌∙◌}
+-- Changes that are of no request add no findings, and complete no request.
+use Rattle.std.proofs.Common.{◌≡◌, ℕ, ◌+◌, Bool, true, false, List, [], ◌∷◌, ◌++◌, refl, sym, ap, ◌∙◌}
 use Rattle.std.proofs.lemmas.Grind.{flat_map-append}
 use Rattle.std.proofs.lemmas.List.{append_assoc}
 use Rattle.std.specs.Prelude.{Option, Some, None, Result, Ok, Err, OnOk}
@@ -14,7 +14,9 @@ use Rattle.places.specs.declared.value.Value.{Value}
 use Rattle.places.specs.Runs.{place_in, old_bytes}
 use Rattle.places.specs.View.{View}
 use Rattle.finding_kinds.specs.declared.finding.Finding.{Finding}
-use Rattle.findings.specs.Records.{of_place, of_change, after_note, after_notes, is_row, OfNoRow}
+use Rattle.findings.specs.declared.completed.Member.{Member}
+use Rattle.findings.specs.Endings.{Circumstances}
+use Rattle.findings.specs.Records.{of_place, of_change, members_at, members_of, after_note, after_notes, is_row, OfNoRow}
 
 -- A byte is no request.
 byte_no_row : (g : Region) (i : ℕ) → is_row (place_in g i) ≡ false
@@ -32,18 +34,18 @@ bytes_no_row g s (Some b ∷ os) cs h = (byte_no_row g s, bytes_no_row g (s + 1)
 true_false : true ≡ false → ⊥
 true_false e = cc
 
-place_shows_none : (i : ℕ) (rows : List Row) (x : Option Value) (p : Place) → is_row p ≡ false → of_place i rows x p ≡ []
-place_shows_none i rows x (Request r) e = absurd (true_false e)
-place_shows_none i rows x _ e = refl
-
 place_follows_none : (v : View) (ns : List ℕ) (x : Option Value) (p : Place) → is_row p ≡ false → after_note v ns x p ≡ ns
 place_follows_none v ns x (Request r) e = absurd (true_false e)
 place_follows_none v ns x _ e = refl
 
--- Such changes add no findings.
-shows_none : (i : ℕ) (rows : List Row) (cs : List Change) → OfNoRow cs → flat_map (of_change i rows) cs ≡ []
-shows_none i rows [] h = refl
-shows_none i rows (c ∷ cs) h = ap (λ (fs : List Finding). fs ++ flat_map (of_change i rows) cs) (place_shows_none i rows c.old c.place h.0) ∙ shows_none i rows cs h.1
+-- A function of changes that gives nothing for those that are of no request.
+abbrev pub OfRows : {X : Type 0} → (Change → List X) → Type 0
+OfRows f = (c : Change) → is_row c.place ≡ false → f c ≡ []
+
+-- Such changes give nothing.
+gives_none : {X : Type 0} (f : Change → List X) → OfRows f → (cs : List Change) → OfNoRow cs → flat_map f cs ≡ []
+gives_none f of_rows [] h = refl
+gives_none {X} f of_rows (c ∷ cs) h = ap (λ (xs : List X). xs ++ flat_map f cs) (of_rows c h.0) ∙ gives_none f of_rows cs h.1
 
 -- They don't change the followed numbers.
 follows_none : (v : View) (ns : List ℕ) (cs ds : List Change) → OfNoRow cs → after_notes v ns (cs ++ ds) ≡ after_notes v ns ds
@@ -54,20 +56,40 @@ follows_parts : (v : View) (ns : List ℕ) (cs ds : List Change) → after_notes
 follows_parts v ns [] ds = refl
 follows_parts v ns (c ∷ cs) ds = follows_parts v (after_note v ns c.old c.place) cs ds
 
-shown_without : (i : ℕ) (rows : List Row) (cs bs ds : List Change) → OfNoRow bs → flat_map (of_change i rows) cs ++ flat_map (of_change i rows) ds ≡ flat_map (of_change i rows) (cs ++ (bs ++ ds))
-shown_without i rows cs bs ds h = sym (
-    flat_map-append (of_change i rows) cs (bs ++ ds)
-    ∙ ap (λ (fs : List Finding). flat_map (of_change i rows) cs ++ fs) (flat_map-append (of_change i rows) bs ds ∙ ap (λ (fs : List Finding). fs ++ flat_map (of_change i rows) ds) (shows_none i rows bs h)))
+given_without : {X : Type 0} (f : Change → List X) → OfRows f → (cs bs ds : List Change) → OfNoRow bs → flat_map f cs ++ flat_map f ds ≡ flat_map f (cs ++ (bs ++ ds))
+given_without {X} f of_rows cs bs ds h = sym (
+    flat_map-append f cs (bs ++ ds)
+    ∙ ap (λ (xs : List X). flat_map f cs ++ xs) (flat_map-append f bs ds ∙ ap (λ (xs : List X). xs ++ flat_map f ds) (gives_none f of_rows bs h)))
 
 -- A record is covered if its first and last part are and its middle is of no request.
-pub all_shown : {V E : Type 0} (r : Result V E) (i : ℕ) (rows : List Row) (all cs bs ds : List Change) (fs gs hs : List Finding) → all ≡ cs ++ (bs ++ ds) → OfNoRow bs → gs ≡ fs ++ flat_map (of_change i rows) cs → OnOk r (hs ≡ gs ++ flat_map (of_change i rows) ds)
-    → OnOk r (hs ≡ fs ++ flat_map (of_change i rows) all)
-all_shown (Ok x) i rows all cs bs ds fs gs hs e h g k =
-    k ∙ ap (λ (xs : List Finding). xs ++ flat_map (of_change i rows) ds) g
-    ∙ append_assoc fs (flat_map (of_change i rows) cs) (flat_map (of_change i rows) ds)
-    ∙ ap (λ (xs : List Finding). fs ++ xs) (shown_without i rows cs bs ds h ∙ ap (flat_map (of_change i rows)) (sym e))
-all_shown (Err x) i rows all cs bs ds fs gs hs e h g k = tt
+pub parts_given : {X : Type 0} (f : Change → List X) → OfRows f → (all cs bs ds : List Change) (xs ys zs : List X) → all ≡ cs ++ (bs ++ ds) → OfNoRow bs → ys ≡ xs ++ flat_map f cs → zs ≡ ys ++ flat_map f ds → zs ≡ xs ++ flat_map f all
+parts_given {X} f of_rows all cs bs ds xs ys zs e h g k =
+    k ∙ ap (λ (us : List X). us ++ flat_map f ds) g
+    ∙ append_assoc xs (flat_map f cs) (flat_map f ds)
+    ∙ ap (λ (us : List X). xs ++ us) (given_without f of_rows cs bs ds h ∙ ap (flat_map f) (sym e))
 
+-- The findings about requests.
+place_shows_none : (i : ℕ) (told : ℕ → Row → Circumstances) (rows : List Row) (x : Option Value) (p : Place) → is_row p ≡ false → of_place i told rows x p ≡ []
+place_shows_none i told rows x (Request r) e = absurd (true_false e)
+place_shows_none i told rows x _ e = refl
+
+pub all_shown : {V E : Type 0} (r : Result V E) (i : ℕ) (told : ℕ → Row → Circumstances) (rows : List Row) (all cs bs ds : List Change) (fs gs hs : List Finding) → all ≡ cs ++ (bs ++ ds) → OfNoRow bs → gs ≡ fs ++ flat_map (of_change i told rows) cs
+    → OnOk r (hs ≡ gs ++ flat_map (of_change i told rows) ds) → OnOk r (hs ≡ fs ++ flat_map (of_change i told rows) all)
+all_shown (Ok x) i told rows all cs bs ds fs gs hs e h g k = parts_given (of_change i told rows) (λ c. place_shows_none i told rows c.old c.place) all cs bs ds fs gs hs e h g k
+all_shown (Err x) i told rows all cs bs ds fs gs hs e h g k = tt
+
+-- The requests that pass a test.
+place_has_none : (test : Option Row → Row → Bool) (rows : List Row) (x : Option Value) (p : Place) → is_row p ≡ false → members_at test rows x p ≡ []
+place_has_none test rows x (Request r) e = absurd (true_false e)
+place_has_none test rows x _ e = refl
+
+pub all_members : (test : Option Row → Row → Bool) (rows : List Row) (all cs bs ds : List Change) (xs ys zs : List Member) → all ≡ cs ++ (bs ++ ds) → OfNoRow bs → xs ≡ [] → ys ≡ xs ++ flat_map (members_of test rows) cs → zs ≡ ys ++ flat_map (members_of test rows) ds
+    → zs ≡ flat_map (members_of test rows) all
+all_members test rows all cs bs ds xs ys zs e h none g k =
+    parts_given (members_of test rows) (λ c. place_has_none test rows c.old c.place) all cs bs ds xs ys zs e h g k
+    ∙ ap (λ (us : List Member). us ++ flat_map (members_of test rows) all) none
+
+-- The followed numbers.
 pub all_followed : {V E : Type 0} (r : Result V E) (v : View) (all cs bs ds : List Change) (ns ks now : List ℕ) → all ≡ cs ++ (bs ++ ds) → OfNoRow bs → ks ≡ after_notes v ns cs → OnOk r (now ≡ after_notes v ks ds) → OnOk r (now ≡ after_notes v ns all)
 all_followed (Ok x) v all cs bs ds ns ks now e h g k =
     k ∙ ap (λ (xs : List ℕ). after_notes v xs ds) g ∙ sym (follows_none v (after_notes v ns cs) bs ds h) ∙ sym (follows_parts v ns cs (bs ++ ds)) ∙ ap (after_notes v ns) (sym e)

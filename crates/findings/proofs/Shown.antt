@@ -32,7 +32,8 @@ use Rattle.finding_kinds.specs.declared.kind.TheConstants.EndedKind.{ALL as ende
 use Rattle.finding_kinds.specs.declared.kind.TheConstants.StepKind.{ALL as step_kinds}
 use Rattle.finding_kinds.specs.declared.kind.TheConstants.QueuedKind.{ALL as queued_kinds}
 use Rattle.finding_kinds.specs.declared.kind.TheConstants.CancelKind.{ALL as cancel_kinds}
-use Rattle.findings.specs.Endings.{result_in, next_in, is_of, ended_test, queued_test}
+use Rattle.findings.specs.Endings.{Circumstances, ending_of, result_in, next_in, is_of, ended_test, queued_test}
+use Rattle.findings.specs.Completions.{circumstances}
 use Rattle.findings.specs.Conditions.{overflows, done_by, is_step_of, is_of_step}
 use Rattle.findings.specs.Uses.{changes_slot, changes_at}
 use Rattle.findings.specs.Canceling.{cancel_before, is_of_cancel, cancel_shows}
@@ -57,86 +58,102 @@ false_true e = cc
 -- ---- nothing else
 
 module _ (s : Setup) (i : ℕ) (before : Machine) (e : Event) (next_state : Machine) where
-  row_shown : (r : ℕ) (old : Option Row) (row : Row) → slice_get before.table r ≡ old → slice_get next_state.table r ≡ Some row → All (IsShown s i before e next_state) (of_row i old next_state.table r row)
+  row_shown : (r : ℕ) (old : Option Row) (row : Row) → slice_get before.table r ≡ old → slice_get next_state.table r ≡ Some row → All (IsShown s i before e next_state) (of_row i (circumstances s before e next_state r row) old next_state.table r row)
   row_shown r old row o k =
-      All-append (IsShown s i before e next_state) (of_ended i old next_state.table r row) (of_queued i old next_state.table r row)
-      (group_only (IsShown s i before e next_state) group.Ended (λ (kind : EndedKind). ended_test kind old next_state.table r row) i r ended_kinds (λ kind t. (refl, at_row (ended_test kind) t)))
+      All-append (IsShown s i before e next_state) (of_ended i (circumstances s before e next_state r row) old next_state.table r row) (of_queued i old next_state.table r row)
+      (group_only (IsShown s i before e next_state) group.Ended (λ (kind : EndedKind). ended_test kind (circumstances s before e next_state r row) old next_state.table r row) i r ended_kinds
+      (λ kind t. (refl, at_row (λ (o : Option Row) (rows : List Row) (n : ℕ) (x : Row). ended_test kind (circumstances s before e next_state n x) o rows n x) t)))
       (group_only (IsShown s i before e next_state) group.Queued (λ (kind : QueuedKind). queued_test kind old next_state.table r row) i r queued_kinds (λ kind t. (refl, at_row (queued_test kind) t)))
     where
       at_row : (test : Option Row → List Row → ℕ → Row → Bool) → test old next_state.table r row ≡ true → option_map_or (test (slice_get before.table r) next_state.table r) (slice_get next_state.table r) false ≡ true
       at_row test t = ap (λ (x : Option Row). option_map_or (test (slice_get before.table r) next_state.table r) x false) k ∙ ap (λ (x : Option Row). test x next_state.table r row) o ∙ t
 
-  place_shown : (x : Option Value) (p : Place) → x ≡ view before p → All (IsShown s i before e next_state) (of_place i next_state.table x p)
+  place_shown : (x : Option Value) (p : Place) → x ≡ view before p → All (IsShown s i before e next_state) (of_place i (circumstances s before e next_state) next_state.table x p)
   place_shown x (Request r) h = by (slice_get next_state.table r) refl
     where
       old : slice_get before.table r ≡ row_in x
       old = sym (ap row_in h ∙ row_in_requested (slice_get before.table r))
 
-      by : (o : Option Row) → slice_get next_state.table r ≡ o → All (IsShown s i before e next_state) (option_map_or (of_row i (row_in x) next_state.table r) o [])
+      by : (o : Option Row) → slice_get next_state.table r ≡ o → All (IsShown s i before e next_state) (option_map_or (λ (row : Row). of_row i (circumstances s before e next_state r row) (row_in x) next_state.table r row) o [])
       by None k = All-nil (IsShown s i before e next_state)
       by (Some row) k = row_shown r (row_in x) row old k
   place_shown x _ h = All-nil (IsShown s i before e next_state)
 
-  changes_shown : (cs : List Change) → AreTrue (view before) cs → All (IsShown s i before e next_state) (flat_map (of_change i next_state.table) cs)
+  changes_shown : (cs : List Change) → AreTrue (view before) cs → All (IsShown s i before e next_state) (flat_map (of_change i (circumstances s before e next_state) next_state.table) cs)
   changes_shown [] h = All-nil (IsShown s i before e next_state)
   changes_shown (c ∷ cs) h =
-      All-append (IsShown s i before e next_state) (of_change i next_state.table c) (flat_map (of_change i next_state.table) cs) (place_shown c.old c.place h.0) (changes_shown cs h.1)
+      All-append (IsShown s i before e next_state) (of_change i (circumstances s before e next_state) next_state.table c) (flat_map (of_change i (circumstances s before e next_state) next_state.table) cs) (place_shown c.old c.place h.0) (changes_shown cs h.1)
 
   -- Each finding computed from the record is one of the event.
-  pub record_shown : (cs : List Change) → Exact (view before) (view next_state) cs → NamesOnce cs → All (IsShown s i before e next_state) (flat_map (of_change i next_state.table) cs)
+  pub record_shown : (cs : List Change) → Exact (view before) (view next_state) cs → NamesOnce cs → All (IsShown s i before e next_state) (flat_map (of_change i (circumstances s before e next_state) next_state.table) cs)
   record_shown cs x o = changes_shown cs (true_notes (view before) (view next_state) cs x o)
 
 -- ---- nothing left out
 
--- A request that doesn't change has no finding.
-ended_unchanged : (kind : EndedKind) (rows : List Row) (r : ℕ) (row : Row) → ended_test kind (Some row) rows r row ≡ false
-ended_unchanged kind rows r row = by row.phase (is_of kind (Some row) row (next_in rows r))
+-- A request that doesn't change is not completed.
+pub not_completed : (row : Row) (f : ℤ → Bool) → option_map_or f (ending_of (Some row) row) false ≡ false
+not_completed row f = by row.phase
   where
-    by : (p : Phase) (f : ℤ → Bool) → option_map_or f (cond (is_ended p) None (result_in p)) false ≡ false
-    by Queued f = refl
-    by Issued f = refl
-    by (Ended res) f = refl
+    by : (p : Phase) → option_map_or f (cond (is_ended p) None (result_in p)) false ≡ false
+    by Queued = refl
+    by Issued = refl
+    by (Ended res) = refl
+
+-- It has no finding.
+ended_unchanged : (kind : EndedKind) (c : Circumstances) (rows : List Row) (r : ℕ) (row : Row) → ended_test kind c (Some row) rows r row ≡ false
+ended_unchanged kind c rows r row = not_completed row (is_of kind c (Some row) row (next_in rows r))
+
+-- Only a request that changes passes the test.
+abbrev pub NeedsChange : (Option Row → Row → Bool) → Type 0
+NeedsChange test = (row : Row) → test (Some row) row ≡ false
+
+-- A request that passes is named by the record, with its old value.
+pub passes_named : (before next_state : Machine) (cs : List Change) (r : ℕ) (row : Row) (test : Option Row → Row → Bool) → NeedsChange test → Exact (view before) (view next_state) cs → slice_get next_state.table r ≡ Some row → test (slice_get before.table r) row ≡ true
+    → Has cs (record { place = Request r; old = view before (Request r) })
+passes_named before next_state cs r row test needs x k t = change_there cs (Request r) (view before (Request r)) (is_named (view before) (view next_state) cs (Request r) x differs)
+  where
+    differs : view before (Request r) ≡ view next_state (Request r) → ⊥
+    differs e =
+        let same : slice_get before.table r ≡ Some row = sym (row_in_requested (slice_get before.table r)) ∙ ap row_in e ∙ row_in_requested (slice_get next_state.table r) ∙ k in
+        false_true (sym (needs row) ∙ ap (λ (o : Option Row). test o row) (sym same) ∙ t)
 
 -- A finding about a request, by a test that only a request that changes passes, is computed from the
 -- record.
-place_there : (i : ℕ) (before next_state : Machine) (cs : List Change) (kind : Kind) (r : ℕ) (test : Option Row → Row → Bool) → ((row : Row) → test (Some row) row ≡ false)
-    → ((old : Option Row) (row : Row) → test old row ≡ true → Has (of_row i old next_state.table r row) (the_finding i kind r)) → Exact (view before) (view next_state) cs
-    → option_map_or (test (slice_get before.table r)) (slice_get next_state.table r) false ≡ true → Has (flat_map (of_change i next_state.table) cs) (the_finding i kind r)
-place_there i before next_state cs kind r test unchanged row_has x h = by (slice_get next_state.table r) refl h
+place_there : (s : Setup) (i : ℕ) (before : Machine) (e : Event) (next_state : Machine) (cs : List Change) (kind : Kind) (r : ℕ) (test : Option Row → Row → Bool) → NeedsChange test
+    → ((old : Option Row) (row : Row) → test old row ≡ true → Has (of_row i (circumstances s before e next_state r row) old next_state.table r row) (the_finding i kind r)) → Exact (view before) (view next_state) cs
+    → option_map_or (test (slice_get before.table r)) (slice_get next_state.table r) false ≡ true → Has (flat_map (of_change i (circumstances s before e next_state) next_state.table) cs) (the_finding i kind r)
+place_there s i before e next_state cs kind r test needs row_has x h = by (slice_get next_state.table r) refl h
   where
-    with_row : (row : Row) → slice_get next_state.table r ≡ Some row → test (slice_get before.table r) row ≡ true → Has (flat_map (of_change i next_state.table) cs) (the_finding i kind r)
+    with_row : (row : Row) → slice_get next_state.table r ≡ Some row → test (slice_get before.table r) row ≡ true → Has (flat_map (of_change i (circumstances s before e next_state) next_state.table) cs) (the_finding i kind r)
     with_row row k t =
-        let differs : view before (Request r) ≡ view next_state (Request r) → ⊥ = λ e.
-        let same : slice_get before.table r ≡ Some row = sym (row_in_requested (slice_get before.table r)) ∙ ap row_in e ∙ row_in_requested (slice_get next_state.table r) ∙ k in
-        false_true (sym (unchanged row) ∙ ap (λ (o : Option Row). test o row) (sym same) ∙ t)
-        in
-        let noted = change_there cs (Request r) (view before (Request r)) (is_named (view before) (view next_state) cs (Request r) x differs) in
+        let named = passes_named before next_state cs r row test needs x k t in
         let old : row_in (view before (Request r)) ≡ slice_get before.table r = row_in_requested (slice_get before.table r) in
-        let reported : Has (of_row i (row_in (view before (Request r))) next_state.table r row) (the_finding i kind r) =
+        let reported : Has (of_row i (circumstances s before e next_state r row) (row_in (view before (Request r))) next_state.table r row) (the_finding i kind r) =
         row_has (row_in (view before (Request r))) row (ap (λ (o : Option Row). test o row) old ∙ t)
         in
-        let placed : Has (of_place i next_state.table (view before (Request r)) (Request r)) (the_finding i kind r) =
-        subst (λ (o : Option Row). Has (option_map_or (of_row i (row_in (view before (Request r))) next_state.table r) o []) (the_finding i kind r)) (sym k) reported
+        let placed : Has (of_place i (circumstances s before e next_state) next_state.table (view before (Request r)) (Request r)) (the_finding i kind r) =
+        subst (λ (o : Option Row). Has (option_map_or (λ (x : Row). of_row i (circumstances s before e next_state r x) (row_in (view before (Request r))) next_state.table r x) o []) (the_finding i kind r)) (sym k) reported
         in
-        has_flat_map (of_change i next_state.table) cs (record { place = Request r; old = view before (Request r) }) (the_finding i kind r) noted placed
+        has_flat_map (of_change i (circumstances s before e next_state) next_state.table) cs (record { place = Request r; old = view before (Request r) }) (the_finding i kind r) named placed
 
-    by : (o : Option Row) → slice_get next_state.table r ≡ o → option_map_or (test (slice_get before.table r)) o false ≡ true → Has (flat_map (of_change i next_state.table) cs) (the_finding i kind r)
+    by : (o : Option Row) → slice_get next_state.table r ≡ o → option_map_or (test (slice_get before.table r)) o false ≡ true → Has (flat_map (of_change i (circumstances s before e next_state) next_state.table) cs) (the_finding i kind r)
     by None k t = absurd (false_true t)
     by (Some row) k t = with_row row k t
 
 -- Each finding of the event about a request is computed from the record.
-pub ended_there : (i : ℕ) (before next_state : Machine) (cs : List Change) (kind : EndedKind) (r : ℕ) → Exact (view before) (view next_state) cs → ends kind before next_state r ≡ true
-    → Has (flat_map (of_change i next_state.table) cs) (the_finding i (group.Ended kind) r)
-ended_there i before next_state cs kind r x h =
-    place_there i before next_state cs (group.Ended kind) r (λ (old : Option Row) (row : Row). ended_test kind old next_state.table r row) (ended_unchanged kind next_state.table r)
-    (λ old row t. has_left (of_ended i old next_state.table r row) (of_queued i old next_state.table r row) (the_finding i (group.Ended kind) r)
-    (group_there group.Ended (λ (k : EndedKind). ended_test k old next_state.table r row) i r ended_kinds kind (is_ended_kind kind) t)) x h
+pub ended_there : (s : Setup) (i : ℕ) (before : Machine) (e : Event) (next_state : Machine) (cs : List Change) (kind : EndedKind) (r : ℕ) → Exact (view before) (view next_state) cs → ends s kind before e next_state r ≡ true
+    → Has (flat_map (of_change i (circumstances s before e next_state) next_state.table) cs) (the_finding i (group.Ended kind) r)
+ended_there s i before e next_state cs kind r x h =
+    place_there s i before e next_state cs (group.Ended kind) r (λ (old : Option Row) (row : Row). ended_test kind (circumstances s before e next_state r row) old next_state.table r row)
+    (λ row. ended_unchanged kind (circumstances s before e next_state r row) next_state.table r row)
+    (λ old row t. has_left (of_ended i (circumstances s before e next_state r row) old next_state.table r row) (of_queued i old next_state.table r row) (the_finding i (group.Ended kind) r)
+    (group_there group.Ended (λ (k : EndedKind). ended_test k (circumstances s before e next_state r row) old next_state.table r row) i r ended_kinds kind (is_ended_kind kind) t)) x h
 
-pub queued_there : (i : ℕ) (before next_state : Machine) (cs : List Change) (kind : QueuedKind) (r : ℕ) → Exact (view before) (view next_state) cs → comes kind before next_state r ≡ true
-    → Has (flat_map (of_change i next_state.table) cs) (the_finding i (group.Queued kind) r)
-queued_there i before next_state cs kind r x h =
-    place_there i before next_state cs (group.Queued kind) r (λ (old : Option Row) (row : Row). queued_test kind old next_state.table r row) (λ row. refl)
-    (λ old row t. has_right (of_ended i old next_state.table r row) (of_queued i old next_state.table r row) (the_finding i (group.Queued kind) r)
+pub queued_there : (s : Setup) (i : ℕ) (before : Machine) (e : Event) (next_state : Machine) (cs : List Change) (kind : QueuedKind) (r : ℕ) → Exact (view before) (view next_state) cs → comes kind before next_state r ≡ true
+    → Has (flat_map (of_change i (circumstances s before e next_state) next_state.table) cs) (the_finding i (group.Queued kind) r)
+queued_there s i before e next_state cs kind r x h =
+    place_there s i before e next_state cs (group.Queued kind) r (λ (old : Option Row) (row : Row). queued_test kind old next_state.table r row) (λ row. refl)
+    (λ old row t. has_right (of_ended i (circumstances s before e next_state r row) old next_state.table r row) (of_queued i old next_state.table r row) (the_finding i (group.Queued kind) r)
     (group_there group.Queued (λ (k : QueuedKind). queued_test k old next_state.table r row) i r queued_kinds kind (is_queued_kind kind) t)) x h
 
 -- ---- rings and threads

@@ -12,6 +12,8 @@ use Rattle.links_drains.specs.Phases.{is_ended, is_issued}
 use Rattle.links_drains.specs.Units.{is_open}
 use Rattle.timeouts_cancel.specs.Cascades.{is_bad, is_negative, is_transfer}
 use Rattle.finding_kinds.specs.Chains.{distance_to_next}
+use Rattle.finding_kinds.specs.declared.kind.Verdict.{Verdict}
+use Rattle.finding_kinds.specs.declared.kind.Verdict.TheVariants.{Fault, Note}
 use Rattle.finding_kinds.specs.declared.kind.EndedKind.{EndedKind}
 use Rattle.finding_kinds.specs.declared.kind.EndedKind.TheVariants.{Failed, Short, Severed, Canceled, TimedOut, Expired, NotFound, TooLate, WentOn}
 use Rattle.finding_kinds.specs.declared.kind.QueuedKind.{QueuedKind}
@@ -71,26 +73,50 @@ has_next row next = option_map_or (λ (other : Row). (other.unit == row.unit) &&
 abbrev pub leaves_chain : Option Row → Row → ℤ → Bool
 leaves_chain before row res = has_flag row.entry.flags 8 && (is_bad row res && (was_issued before || (is_some before && not (is_error 125 res))))
 
+-- Whether a soft-linked request failed or was short itself. Queued requests that are canceled with
+-- their chain don't count.
+abbrev pub severs : Option Row → Row → ℤ → Bool
+severs before row res = is_soft_linked row && (is_bad row res && (was_issued before || not (is_error 125 res)))
+
+-- What a finding about a completed request depends on besides the request:
+--   short_of_end: it is a WRITE, or a READ of a file that stopped before the file's end.
+--   severs_others: the event canceled a later request of its chain.
+--   is_named: another finding of the event names it.
+--   was_ready: it is a linked timeout, and its target could have completed before the event.
+pub record Circumstances : Type 0 where
+  pub short_of_end : Bool
+  pub severs_others : Bool
+  pub is_named : Bool
+  pub was_ready : Bool
+
+-- Whether a verdict is the right one of a finding that is a fault exactly if a test holds.
+abbrev pub is_right : Verdict → Bool → Bool
+is_right Fault test = test
+is_right Note test = not test
+
 -- Whether completing with a result is a finding (io_uring_enter(2)):
 --   Failed: the result is an error that no other kind covers.
---   Short: a READ or WRITE moved fewer bytes than it asked for.
---   Severed: a soft-linked request failed or was short itself. Queued members that are canceled
---     with their chain don't count.
---   Canceled: the result is ECANCELED.
---   TimedOut, Expired: a LINK_TIMEOUT or a TIMEOUT completed with ETIME.
+--   Short: a READ or WRITE moved fewer bytes than it asked for. It is a fault if it was short of the
+--     end of its file.
+--   Severed: a soft-linked request failed or was short itself, and a later one of its chain was
+--     canceled.
+--   Canceled: the result is ECANCELED, and no other finding of the event names the request.
+--   TimedOut: a LINK_TIMEOUT completed with ETIME. It is a fault if its target was canceled though it
+--     could have completed.
+--   Expired: a TIMEOUT completed with ETIME.
 --   NotFound, TooLate: a cancel or removal completed with ENOENT or with EALREADY.
 --   WentOn: a hard-linked request failed or was short, and its chain has another member besides a
 --     linked timeout.
-abbrev pub is_of : EndedKind → Option Row → Row → Option Row → ℤ → Bool
-is_of Failed before row next res = is_negative res && not (is_reported_apart row res)
-is_of Short before row next res = is_transfer row.entry.opcode && is_less res row.entry.len
-is_of Severed before row next res = is_soft_linked row && (is_bad row res && (was_issued before || not (is_error 125 res)))
-is_of Canceled before row next res = is_error 125 res
-is_of TimedOut before row next res = is_guard row && is_error 62 res
-is_of Expired before row next res = (row.entry.opcode == 11) && is_error 62 res
-is_of NotFound before row next res = is_cancel row.entry.opcode && is_error 2 res
-is_of TooLate before row next res = is_cancel row.entry.opcode && is_error 114 res
-is_of WentOn before row next res = leaves_chain before row res && has_next row next
+abbrev pub is_of : EndedKind → Circumstances → Option Row → Row → Option Row → ℤ → Bool
+is_of Failed c before row next res = is_negative res && not (is_reported_apart row res)
+is_of (Short verdict) c before row next res = (is_transfer row.entry.opcode && is_less res row.entry.len) && is_right verdict c.short_of_end
+is_of Severed c before row next res = severs before row res && c.severs_others
+is_of Canceled c before row next res = is_error 125 res && not c.is_named
+is_of (TimedOut verdict) c before row next res = (is_guard row && is_error 62 res) && is_right verdict c.was_ready
+is_of Expired c before row next res = (row.entry.opcode == 11) && is_error 62 res
+is_of NotFound c before row next res = is_cancel row.entry.opcode && is_error 2 res
+is_of TooLate c before row next res = is_cancel row.entry.opcode && is_error 114 res
+is_of WentOn c before row next res = leaves_chain before row res && has_next row next
 
 -- ---- submissions
 
@@ -121,8 +147,8 @@ comes_as SameUserData rows r row = has_twin rows r row
 
 -- Whether an event completes request r, and that is a finding. `before` is the request before the
 -- event, and `rows` are all requests after it.
-abbrev pub ended_test : EndedKind → Option Row → List Row → ℕ → Row → Bool
-ended_test kind before rows r row = option_map_or (is_of kind before row (next_in rows r)) (ending_of before row) false
+abbrev pub ended_test : EndedKind → Circumstances → Option Row → List Row → ℕ → Row → Bool
+ended_test kind c before rows r row = option_map_or (is_of kind c before row (next_in rows r)) (ending_of before row) false
 
 -- Whether an event submits request r, and that is a finding.
 abbrev pub queued_test : QueuedKind → Option Row → List Row → ℕ → Row → Bool

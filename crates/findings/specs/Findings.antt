@@ -19,6 +19,7 @@ use Rattle.finding_kinds.specs.Orders.{order_of}
 use Rattle.findings.specs.Endings.{ended_test, queued_test}
 use Rattle.findings.specs.Conditions.{overflows, done_by, is_of_step, is_step_of, condition_holds, is_left, Began}
 use Rattle.findings.specs.Conflicts.{clashes, done_at}
+use Rattle.findings.specs.Completions.{circumstances}
 use Rattle.findings.specs.Timespecs.{overwrites}
 use Rattle.findings.specs.Canceling.{cancel_shows}
 use Rattle.findings.specs.Uses.{changes_slot}
@@ -32,8 +33,9 @@ Rises fs = IsStrictlySortedBy order_of fs
 -- ---- events
 
 -- Whether an event completes request r, and that is a finding.
-abbrev pub ends : EndedKind → Machine → Machine → ℕ → Bool
-ends kind before next_state r = option_map_or (ended_test kind (slice_get before.table r) next_state.table r) (slice_get next_state.table r) false
+abbrev pub ends : Setup → EndedKind → Machine → Event → Machine → ℕ → Bool
+ends s kind before e next_state r =
+    option_map_or (λ row. ended_test kind (circumstances s before e next_state r row) (slice_get before.table r) next_state.table r row) (slice_get next_state.table r) false
 
 -- Whether an event submits request r, and that is a finding.
 abbrev pub comes : QueuedKind → Machine → Machine → ℕ → Bool
@@ -49,7 +51,7 @@ step_shows s kind before e next_state t = is_step_of t e && option_map_or (λ x.
 
 -- Whether an event that leads from one machine to another is a finding about subject n.
 abbrev pub occurs : Setup → Kind → Machine → Event → Machine → ℕ → Bool
-occurs s (Ended kind) before e next_state n = ends kind before next_state n
+occurs s (Ended kind) before e next_state n = ends s kind before e next_state n
 occurs s (Queued kind) before e next_state n = comes kind before next_state n
 occurs s Overflow before e next_state n = spills before next_state n
 occurs s (Step kind) before e next_state n = step_shows s kind before e next_state n

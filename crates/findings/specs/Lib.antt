@@ -2,6 +2,7 @@ pub mod Endings
 pub mod Uses
 pub mod Conditions
 pub mod Conflicts
+pub mod Completions
 pub mod Canceling
 pub mod Watched
 pub mod Given

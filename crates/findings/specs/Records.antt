@@ -1,7 +1,7 @@
 -- The findings of an event as the search computes them, from the undo record of the event.
-use Rattle.std.specs.Prelude.{◌≡◌, ℕ, ◌<◌, ◌==◌, Bool, true, false, not, ◌&&◌, ◌++◌, if◌then◌else◌, Option, Some, None, List, [], ◌∷◌, length, slice_get}
+use Rattle.std.specs.Prelude.{◌≡◌, ℕ, ◌<◌, ◌==◌, Bool, true, false, not, ◌&&◌, ◌||◌, ◌++◌, if◌then◌else◌, Option, Some, None, List, [], ◌∷◌, length, slice_get}
 use Rattle.std.specs.Option.{option_map_or}
-use Rattle.std.specs.List.{All, filter, flat_map, enumerate_from, Contains}
+use Rattle.std.specs.List.{All, filter, flat_map, list_any, enumerate_from, Contains}
 use Rattle.links_drains.specs.Units.{is_open}
 use Rattle.entries.specs.declared.row.Row.{Row}
 use Rattle.places.specs.declared.place.Place.{Place}
@@ -21,6 +21,7 @@ use Rattle.finding_kinds.specs.declared.kind.Kind.{Kind}
 use Rattle.finding_kinds.specs.declared.kind.Kind.TheVariants as group
 use Rattle.finding_kinds.specs.declared.kind.EndedKind.{EndedKind}
 use Rattle.finding_kinds.specs.declared.kind.LeftKind.TheVariants.{Unfinished, NotDurable}
+use Rattle.finding_kinds.specs.declared.kind.Verdict.TheVariants.{Fault, Note}
 use Rattle.finding_kinds.specs.declared.kind.ConflictKind.{ConflictKind}
 use Rattle.finding_kinds.specs.declared.kind.StepKind.{StepKind}
 use Rattle.finding_kinds.specs.declared.kind.QueuedKind.{QueuedKind}
@@ -31,10 +32,13 @@ use Rattle.finding_kinds.specs.declared.kind.TheConstants.StepKind.{ALL as step_
 use Rattle.finding_kinds.specs.declared.kind.TheConstants.QueuedKind.{ALL as queued_kinds}
 use Rattle.finding_kinds.specs.declared.kind.TheConstants.CancelKind.{ALL as cancel_kinds}
 use Rattle.findings.specs.declared.canceling.Cancel.{Cancel}
+use Rattle.findings.specs.declared.completed.Member.{Member}
+use Rattle.findings.specs.declared.conditions.Before.{Before}
 use Rattle.findings.specs.declared.effect.Effect.{Effect}
 use Rattle.findings.specs.declared.effect.Effect.TheVariants.{Nothing}
 use Rattle.finding_kinds.specs.declared.finding.Finding.{Finding}
-use Rattle.findings.specs.Endings.{ended_test, queued_test}
+use Rattle.findings.specs.Endings.{Circumstances, ended_test, queued_test}
+use Rattle.findings.specs.Completions.{is_short_of_end, is_later, member_of, is_expiry_of, expires_over, has_canceled_target, circumstances}
 use Rattle.findings.specs.Canceling.{cancel_before, is_of_cancel}
 use Rattle.findings.specs.Conditions.{overflows, done_by, is_of_step, has_unsynced}
 use Rattle.findings.specs.Conflicts.{done_at, is_candidate, conflicts}
@@ -51,30 +55,30 @@ abbrev pub of_group : {K : Type 0} → (K → Kind) → (K → Bool) → ℕ →
 of_group whole test i n kinds = flat_map (λ kind. given (test kind) (record { moment = i; kind = whole kind; subject = n })) kinds
 
 -- The findings about the completion of request r.
-abbrev pub of_ended : ℕ → Option Row → List Row → ℕ → Row → List Finding
-of_ended i before rows r row = of_group group.Ended (λ (kind : EndedKind). ended_test kind before rows r row) i r ended_kinds
+abbrev pub of_ended : ℕ → Circumstances → Option Row → List Row → ℕ → Row → List Finding
+of_ended i c before rows r row = of_group group.Ended (λ (kind : EndedKind). ended_test kind c before rows r row) i r ended_kinds
 
 -- The findings about the submission of request r.
 abbrev pub of_queued : ℕ → Option Row → List Row → ℕ → Row → List Finding
 of_queued i before rows r row = of_group group.Queued (λ (kind : QueuedKind). queued_test kind before rows r row) i r queued_kinds
 
 -- All findings about request r.
-abbrev pub of_row : ℕ → Option Row → List Row → ℕ → Row → List Finding
-of_row i before rows r row = of_ended i before rows r row ++ of_queued i before rows r row
+abbrev pub of_row : ℕ → Circumstances → Option Row → List Row → ℕ → Row → List Finding
+of_row i c before rows r row = of_ended i c before rows r row ++ of_queued i before rows r row
 
 -- The request that a value is, if it is one.
 abbrev pub row_in : Option Value → Option Row
 row_in (Some (Requested row)) = Some row
 row_in _ = None
 
--- The findings about a recorded place, if it is a request.
-abbrev pub of_place : ℕ → List Row → Option Value → Place → List Finding
-of_place i rows before (Request r) = option_map_or (of_row i (row_in before) rows r) (slice_get rows r) []
-of_place i rows before _ = []
+-- The findings about a recorded place, if it is a request. `told` gives the circumstances.
+abbrev pub of_place : ℕ → (ℕ → Row → Circumstances) → List Row → Option Value → Place → List Finding
+of_place i told rows before (Request r) = option_map_or (λ row. of_row i (told r row) (row_in before) rows r row) (slice_get rows r) []
+of_place i told rows before _ = []
 
 -- The findings about one change of a record.
-abbrev pub of_change : ℕ → List Row → Change → List Finding
-of_change i rows c = of_place i rows c.old c.place
+abbrev pub of_change : ℕ → (ℕ → Row → Circumstances) → List Row → Change → List Finding
+of_change i told rows c = of_place i told rows c.old c.place
 
 -- Whether a place is a request.
 abbrev pub is_row : Place → Bool
@@ -85,6 +89,37 @@ is_row _ = false
 abbrev pub OfNoRow : List Change → Type 0
 OfNoRow [] = Unit {0}
 OfNoRow (c ∷ cs) = (is_row c.place ≡ false) × OfNoRow cs
+
+-- ---- completed requests
+
+-- Request r, if the test is true.
+abbrev pub member_if : Bool → ℕ → Row → List Member
+member_if test r row = if test then member_of r row ∷ [] else []
+
+-- A recorded place, if it is a request that passes a test of it before and after the event.
+abbrev pub members_at : (Option Row → Row → Bool) → List Row → Option Value → Place → List Member
+members_at test rows before (Request r) = option_map_or (λ row. member_if (test (row_in before) row) r row) (slice_get rows r) []
+members_at test rows before _ = []
+
+-- The same for one change of a record.
+abbrev pub members_of : (Option Row → Row → Bool) → List Row → Change → List Member
+members_of test rows c = members_at test rows c.old c.place
+
+-- Whether an earlier request severed the chain of x and canceled a later one, by the requests of an
+-- event that did so (`severing`) and those that were canceled.
+abbrev pub is_severed_in : List Member → List Member → Member → Bool
+is_severed_in severing canceled x = list_any (λ y. is_later y x && list_any (is_later y) canceled) severing
+
+-- The circumstances in which an event completes request r, by the requests that the event completed
+-- and that severed their chain (`severing`) or were canceled (`canceled`), and by the facts that
+-- were noted before it.
+abbrev pub noted : Setup → List Member → List Member → Before → Event → Machine → ℕ → Row → Circumstances
+noted s severing canceled b e after r row = record {
+  short_of_end = is_short_of_end s after row;
+  severs_others = list_any (is_later (member_of r row)) canceled;
+  is_named = is_severed_in severing canceled (member_of r row) || expires_over after.table e r;
+  was_ready = is_expiry_of r e && (b.was_ready && has_canceled_target after.table row);
+}
 
 -- ---- one event
 
@@ -169,7 +204,7 @@ pub record Adds (s : Setup) (i : ℕ) (before : Machine) (e : Event) (after : Ma
   pub past : List Change
   pub exact : Exact (view before) (view after) past
   pub once : NamesOnce past
-  pub added : gs ≡ ((fs ++ flat_map (of_change i after.table) past) ++ of_event s i before e after) ++ of_effect i s after (done_at s before e after) now
+  pub added : gs ≡ ((fs ++ flat_map (of_change i (circumstances s before e after) after.table) past) ++ of_event s i before e after) ++ of_effect i s after (done_at s before e after) now
   pub further : now ≡ after_notes (view after) numbers past
 
 -- Exactly the findings of the first n events.
@@ -184,7 +219,7 @@ pub record IsLasting (s : Setup) (es : List Event) (fs : List Finding) : Type 0 
 
 -- A finding if the numbered request is incomplete at the end.
 abbrev pub of_left : ℕ → ℕ × Row → List Finding
-of_left n p = given (is_open p.1) (record { moment = n; kind = group.Left Unfinished; subject = p.0 })
+of_left n p = given (is_open p.1) (record { moment = n; kind = group.Left (Unfinished Fault); subject = p.0 })
 
 -- The findings about all incomplete requests.
 abbrev pub all_left : ℕ → List Row → List Finding
@@ -192,7 +227,7 @@ all_left n rows = flat_map (of_left n) (enumerate_from 0 rows)
 
 -- A finding if the object is a file that isn't durable at the end.
 abbrev pub of_object : ℕ → WorldState → ℕ → List Finding
-of_object n w o = given (has_unsynced w o) (record { moment = n; kind = group.Left NotDurable; subject = o })
+of_object n w o = given (has_unsynced w o) (record { moment = n; kind = group.Left (NotDurable Note); subject = o })
 
 -- The findings about all files that aren't durable.
 abbrev pub all_unsynced : Setup → ℕ → WorldState → List Finding

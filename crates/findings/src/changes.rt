@@ -4,7 +4,7 @@ ghost use Rattle.std.specs.Prelude.{◌≡◌, ◌++◌, OnOk};
 ghost use Rattle.std.specs.List.{flat_map};
 ghost use Rattle.machine.specs.Whole.{view};
 ghost use Rattle.places.specs.View.{NamesOnce};
-ghost use Rattle.findings.specs.Records.{of_place, of_change, after_note, after_notes, OfNoRow};
+ghost use Rattle.findings.specs.Records.{noted, of_place, of_change, after_note, after_notes, OfNoRow};
 
 use crate::conflicts::is_candidate;
 use crate::following::{follow, is_candidate_in};
@@ -27,7 +27,10 @@ fn look_at_row(
     old: Option<Value>,
 ) -> Result<(), AllocError>
     ensures added { OnOk result (found.new.items ≡ found.old.items
-        ++ of_place at.entry.moment at.entry.state.now.table old (Place.Request number)) }
+        ++ of_place at.entry.moment (noted at.entry.setup.now
+        at.entry.completed.now.severing.items at.entry.completed.now.canceled.items
+        at.entry.before at.entry.event at.entry.state.now)
+        at.entry.state.now.table old (Place.Request number)) }
     ensures further { OnOk result (numbers.new.items
         ≡ after_note (view at.entry.state.now) numbers.old.items old (Place.Request number)) }
 {
@@ -47,8 +50,11 @@ fn look_at_change(
     at: Transition<'_>,
     change: Change,
 ) -> Result<(), AllocError>
-    ensures added { OnOk result (found.new.items
-        ≡ found.old.items ++ of_change at.entry.moment at.entry.state.now.table change) }
+    ensures added { OnOk result (found.new.items ≡ found.old.items
+        ++ of_change at.entry.moment (noted at.entry.setup.now
+        at.entry.completed.now.severing.items at.entry.completed.now.canceled.items
+        at.entry.before at.entry.event at.entry.state.now)
+        at.entry.state.now.table change) }
     ensures further { OnOk result (numbers.new.items
         ≡ after_note (view at.entry.state.now) numbers.old.items change.old change.place) }
 {
@@ -66,7 +72,10 @@ fn look_at_changes(
     rest: &mut Changes<'_>,
 ) -> Result<(), AllocError>
     ensures added { OnOk result (found.new.items ≡ found.old.items
-        ++ flat_map (of_change at.entry.moment at.entry.state.now.table) rest.old) }
+        ++ flat_map (of_change at.entry.moment (noted at.entry.setup.now
+        at.entry.completed.now.severing.items at.entry.completed.now.canceled.items
+        at.entry.before at.entry.event at.entry.state.now)
+        at.entry.state.now.table) rest.old) }
     ensures further { OnOk result (numbers.new.items
         ≡ after_notes (view at.entry.state.now) numbers.old.items rest.old) }
 {
@@ -76,8 +85,8 @@ fn look_at_changes(
     Ok(())
 }
 
-// Skips the recorded bytes, none of which belongs to a request.
-fn pass_over(rest: &mut Stretches<'_>)
+/// Skips the recorded bytes, none of which belongs to a request.
+pub(crate) fn pass_over(rest: &mut Stretches<'_>)
     ensures { OfNoRow rest.old.left }
 {
     while let Some(_run) = rest.next() {}
@@ -93,7 +102,10 @@ pub(crate) fn look_at_record(
     past: &Record,
 ) -> Result<(), AllocError>
     ensures added { OnOk result (found.new.items ≡ found.old.items
-        ++ flat_map (of_change at.entry.moment at.entry.state.now.table) past.now) }
+        ++ flat_map (of_change at.entry.moment (noted at.entry.setup.now
+        at.entry.completed.now.severing.items at.entry.completed.now.canceled.items
+        at.entry.before at.entry.event at.entry.state.now)
+        at.entry.state.now.table) past.now) }
     ensures once { OnOk result (NamesOnce past.now) }
     ensures further { OnOk result (numbers.new.items
         ≡ after_notes (view at.entry.state.now) numbers.old.items past.now) }

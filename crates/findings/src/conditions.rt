@@ -8,9 +8,10 @@ ghost use Rattle.machine.specs.Steps.{number_in};
 ghost use Rattle.findings.specs.Searching.{facts_before};
 
 use crate::canceling::{Cancel, cancel_before};
+use crate::circumstances::expires_late;
 use crate::uses::{Sought, changes_at, first_pushed, is_held, is_named, is_pushed_last};
 use entries::{EBADF, EBUSY, EINVAL, IORING_SQ_CQ_OVERFLOW, IORING_SQ_NEED_WAKEUP};
-use finding_kinds::{LastingKind, StepKind, descriptor_number, instruction_at};
+use finding_kinds::{LastingKind, StepKind, Verdict, descriptor_number, instruction_at};
 use machine::{Event, Instruction, Setup, State};
 use places::{Place, Stage, Value};
 
@@ -25,6 +26,8 @@ pub struct Before {
     pub changes: bool,
     /// The cancel or removal that the event completes.
     pub cancel: Option<Cancel>,
+    /// The event is the expiry of a linked timeout whose target could complete.
+    pub was_ready: bool,
 }
 
 impl Before {
@@ -37,6 +40,7 @@ impl Before {
             counter,
             changes: changes_at(state, instruction_at(setup, event, counter)),
             cancel: cancel_before(state, event),
+            was_ready: expires_late(state, event),
         }
     }
 }
@@ -228,8 +232,11 @@ pub(crate) fn condition_holds(setup: &Setup, kind: LastingKind, state: &State, s
 {
     match kind {
         LastingKind::LostWakeUp => subject == 0 && (needs_wake_up(state) && has_entries(state)),
-        LastingKind::NotTaken => subject == 0 && (!needs_wake_up(state) && has_entries(state)),
+        LastingKind::NotTaken(Verdict::Fault) => {
+            subject == 0 && (!needs_wake_up(state) && has_entries(state))
+        }
         LastingKind::NotReaped => subject == 0 && (overflows(state) || has_completions(state)),
-        LastingKind::Waits => waits(setup, state, subject),
+        LastingKind::Waits(Verdict::Fault) => waits(setup, state, subject),
+        _ => false,
     }
 }

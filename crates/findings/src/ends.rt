@@ -1,10 +1,15 @@
 //! Findings about requests that an event submits or completes (io_uring_enter(2)).
-ghost use Rattle.std.specs.Prelude.{◌≡◌, ◌+◌, None, slice_get};
+ghost use Rattle.std.specs.Prelude.{◌≡◌, ◌+◌, ◌&&◌, false, slice_get};
+ghost use Rattle.std.specs.Option.{option_map_or};
 ghost use Rattle.timeouts_cancel.specs.Cascades.{is_bad, is_transfer};
-ghost use Rattle.links_drains.specs.Links.{has_flag, is_linked};
-ghost use Rattle.findings.specs.Endings.{had_ended, was_issued, ending_of, is_error, is_less, is_reported_apart, next_in, has_next, leaves_chain, is_of, has_idle_field, comes_as, ended_test, queued_test};
+ghost use Rattle.links_drains.specs.Links.{has_flag, is_guard, is_linked};
+ghost use Rattle.findings.specs.Endings.{had_ended, was_issued, result_in, ending_of, is_error, is_less, is_reported_apart, severs, next_in, has_next, leaves_chain, is_of, has_idle_field, comes_as, ended_test, queued_test};
+ghost use Rattle.findings.specs.Completions.{is_severing, is_dropped};
+ghost use Rattle.findings.specs.Records.{noted};
 
+use crate::circumstances::{is_named, is_right, is_short_of_end, severs_others, was_ready};
 use crate::leftover::row_at;
+use crate::transition::Transition;
 use crate::twins::has_twin;
 use entries::{
     EALREADY, ECANCELED, ENOENT, ETIME, IOSQE_IO_HARDLINK, IOSQE_IO_LINK, Phase, Row, Sqe,
@@ -32,6 +37,16 @@ fn was_issued(before: &Option<Row>) -> bool
     }
 }
 
+/// Returns the result of a completed request.
+pub(crate) fn result_in(phase: Phase) -> Option<i32>
+    ensures { result ≡ result_in phase }
+{
+    match phase {
+        Phase::Ended(res) => Some(res),
+        Phase::Queued | Phase::Issued => None,
+    }
+}
+
 // Returns the result with which the event completes the request, if it does.
 fn ending_of(before: &Option<Row>, row: &Row) -> Option<i32>
     ensures { result ≡ ending_of before.now row.now }
@@ -39,10 +54,7 @@ fn ending_of(before: &Option<Row>, row: &Row) -> Option<i32>
     if had_ended(before) {
         return None;
     }
-    match row.phase {
-        Phase::Ended(res) => Some(res),
-        Phase::Queued | Phase::Issued => None,
-    }
+    result_in(row.phase)
 }
 
 // Returns whether a result is this error.
@@ -52,7 +64,8 @@ fn is_error(errno: u32, res: i32) -> bool
     res < 0 && res.unsigned_abs() == errno
 }
 
-fn is_canceled(res: i32) -> bool
+/// Returns whether a result is ECANCELED.
+pub(crate) fn is_canceled(res: i32) -> bool
     ensures { result ≡ is_error 125 res }
 {
     is_error(ECANCELED as u32, res)
@@ -106,12 +119,38 @@ fn is_reported_apart(row: &Row, res: i32) -> bool
             || (is_cancel(row.entry.opcode) && (is_not_there(res) || is_under_way(res))))
 }
 
-// Returns whether a soft-linked request breaks its chain itself, rather than being canceled because
-// an earlier member broke it.
+// Returns whether a soft-linked request failed or was short itself, rather than being canceled with
+// its chain.
 fn severs(before: &Option<Row>, row: &Row, res: i32) -> bool
-    ensures { result ≡ is_of EndedKind.Severed before.now row.now None res }
+    ensures { result ≡ severs before.now row.now res }
 {
     is_soft_linked(row) && (is_bad(row, res) && (was_issued(before) || !is_canceled(res)))
+}
+
+/// Returns whether the event completes the request, and it severs its chain.
+pub(crate) fn is_severing(before: &Option<Row>, row: &Row) -> bool
+    ensures { result ≡ is_severing before.now row.now }
+{
+    match ending_of(before, row) {
+        Some(res) => severs(before, row, res),
+        None => false,
+    }
+}
+
+fn is_canceled_now(before: &Option<Row>, row: &Row) -> bool
+    ensures { result ≡ option_map_or (is_error 125) (ending_of before.now row.now) false }
+{
+    match ending_of(before, row) {
+        Some(res) => is_canceled(res),
+        None => false,
+    }
+}
+
+/// Returns whether the event completes the request with ECANCELED, and it is no linked timeout.
+pub(crate) fn is_dropped(before: &Option<Row>, row: &Row) -> bool
+    ensures { result ≡ is_dropped before.now row.now }
+{
+    !is_guard(row) && is_canceled_now(before, row)
 }
 
 // Returns the request that is `count` after the given one, if there is one.
@@ -156,27 +195,47 @@ fn leaves_chain(before: &Option<Row>, row: &Row, res: i32) -> bool
         && (is_bad(row, res) && (was_issued(before) || (before.is_some() && !is_canceled(res))))
 }
 
+// Returns whether a READ or WRITE moved fewer bytes than it asked for.
+fn is_short(row: &Row, res: i32) -> bool
+    ensures { result ≡ (is_transfer row.now.entry.opcode && is_less res row.now.entry.len) }
+{
+    is_transfer(row) && is_less(res, row.entry.len)
+}
+
+// Returns whether a linked timeout expired.
+fn has_timed_out(row: &Row, res: i32) -> bool
+    ensures { result ≡ (is_guard row.now && is_error 62 res) }
+{
+    is_guard(row) && is_out_of_time(res)
+}
+
 // Returns whether completing with this result is a finding of this kind.
 fn is_of(
     kind: EndedKind,
+    at: Transition<'_>,
     before: &Option<Row>,
-    state: &State,
     number: u32,
     row: &Row,
     res: i32,
 ) -> bool
-    ensures { result ≡ is_of kind before.now row.now (next_in state.now.table number) res }
+    ensures { result ≡ is_of kind (noted at.entry.setup.now at.entry.completed.now.severing.items
+        at.entry.completed.now.canceled.items at.entry.before at.entry.event at.entry.state.now
+        number row.now) before.now row.now (next_in at.entry.state.now.table number) res }
 {
     match kind {
         EndedKind::Failed => res < 0 && !is_reported_apart(row, res),
-        EndedKind::Short => is_transfer(row) && is_less(res, row.entry.len),
-        EndedKind::Severed => severs(before, row, res),
-        EndedKind::Canceled => is_canceled(res),
-        EndedKind::TimedOut => is_guard(row) && is_out_of_time(res),
+        EndedKind::Short(verdict) => {
+            is_short(row, res) && is_right(verdict, is_short_of_end(at, row))
+        }
+        EndedKind::Severed => severs(before, row, res) && severs_others(at.completed, number, row),
+        EndedKind::Canceled => is_canceled(res) && !is_named(at, number, row),
+        EndedKind::TimedOut(verdict) => {
+            has_timed_out(row, res) && is_right(verdict, was_ready(at, number, row))
+        }
         EndedKind::Expired => row.entry.opcode == Op::Timeout as u8 && is_out_of_time(res),
         EndedKind::NotFound => is_cancel(row.entry.opcode) && is_not_there(res),
         EndedKind::TooLate => is_cancel(row.entry.opcode) && is_under_way(res),
-        EndedKind::WentOn => leaves_chain(before, row, res) && has_next(row, state, number),
+        EndedKind::WentOn => leaves_chain(before, row, res) && has_next(row, at.state, number),
     }
 }
 
@@ -210,15 +269,18 @@ fn comes_as(kind: QueuedKind, state: &State, number: u32, row: &Row) -> bool
 /// the request before the event, `row` after it.
 pub(crate) fn ended_test(
     kind: EndedKind,
+    at: Transition<'_>,
     before: &Option<Row>,
-    state: &State,
     number: u32,
     row: &Row,
 ) -> bool
-    ensures { result ≡ ended_test kind before.now state.now.table number row.now }
+    ensures { result ≡ ended_test kind (noted at.entry.setup.now
+        at.entry.completed.now.severing.items at.entry.completed.now.canceled.items
+        at.entry.before at.entry.event at.entry.state.now number row.now) before.now
+        at.entry.state.now.table number row.now }
 {
     match ending_of(before, row) {
-        Some(res) => is_of(kind, before, state, number, row, res),
+        Some(res) => is_of(kind, at, before, number, row, res),
         None => false,
     }
 }

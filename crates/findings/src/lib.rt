@@ -4,6 +4,8 @@
 
 mod canceling;
 mod changes;
+mod circumstances;
+mod completed;
 mod conditions;
 mod conflicts;
 mod effect;

@@ -4,7 +4,7 @@ ghost use Rattle.std.specs.List.{flat_map};
 ghost use Rattle.std.specs.Option.{option_copied};
 ghost use Rattle.findings.specs.Conditions.{overflows};
 ghost use Rattle.finding_kinds.specs.Programs.{instruction_at};
-ghost use Rattle.findings.specs.Records.{given, of_ended, of_queued, of_row, row_in, of_overflow, of_instruction, of_step, of_canceling, of_cancel, of_candidate, of_number, of_conflicts, of_effect};
+ghost use Rattle.findings.specs.Records.{given, noted, of_ended, of_queued, of_row, row_in, of_overflow, of_instruction, of_step, of_canceling, of_cancel, of_candidate, of_number, of_conflicts, of_effect};
 
 use crate::canceling::{Cancel, is_of_cancel};
 use crate::conditions::{is_of_step, overflows};
@@ -44,8 +44,10 @@ fn add_of_ended(
     number: u32,
     row: &Row,
 ) -> Result<(), AllocError>
-    ensures { OnOk result (found.new.items ≡ found.old.items ++ of_ended at.entry.moment before.now
-        at.entry.state.now.table number row.now) }
+    ensures { OnOk result (found.new.items ≡ found.old.items ++ of_ended at.entry.moment
+        (noted at.entry.setup.now at.entry.completed.now.severing.items
+        at.entry.completed.now.canceled.items at.entry.before at.entry.event at.entry.state.now
+        number row.now) before.now at.entry.state.now.table number row.now) }
 {
     for kind in EndedKind::ALL {
         let finding = Finding {
@@ -55,7 +57,7 @@ fn add_of_ended(
         };
         add_if(
             found,
-            ended_test(kind, before, at.state, number, row),
+            ended_test(kind, at, before, number, row),
             finding,
         )?;
     }
@@ -96,8 +98,10 @@ pub(crate) fn add_of_row(
     number: u32,
     row: &Row,
 ) -> Result<(), AllocError>
-    ensures { OnOk result (found.new.items ≡ found.old.items ++ of_row at.entry.moment before.now
-        at.entry.state.now.table number row.now) }
+    ensures { OnOk result (found.new.items ≡ found.old.items ++ of_row at.entry.moment
+        (noted at.entry.setup.now at.entry.completed.now.severing.items
+        at.entry.completed.now.canceled.items at.entry.before at.entry.event at.entry.state.now
+        number row.now) before.now at.entry.state.now.table number row.now) }
 {
     add_of_ended(found, at, before, number, row)?;
     add_of_queued(found, at, before, number, row)

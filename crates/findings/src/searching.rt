@@ -10,11 +10,12 @@ ghost use Rattle.finding_kinds.specs.Programs.{instruction_at};
 ghost use Rattle.findings.specs.Findings.{IsReportOf};
 ghost use Rattle.findings.specs.Conditions.{overflows};
 ghost use Rattle.findings.specs.Conflicts.{done_as};
-ghost use Rattle.findings.specs.Records.{of_change, of_overflow, of_step, of_cancel, of_effect, after_notes, all_left, all_unsynced};
+ghost use Rattle.findings.specs.Records.{noted, of_change, of_overflow, of_step, of_cancel, of_effect, after_notes, all_left, all_unsynced};
 ghost use Rattle.findings.specs.Watched.{of_lasting};
 ghost use Rattle.findings.specs.Searching.{NotesFacts, HasSearched, Halted};
 
 use crate::changes::look_at_record;
+use crate::completed::completed_by;
 use crate::conditions::{Before, overflows, slot_met};
 use crate::effect::done_as;
 use crate::leftover::add_all_left;
@@ -83,7 +84,9 @@ fn note(at: Transition<'_>, history: &mut History) -> Result<(), AllocError> {
 fn look(at: Transition<'_>, past: &Record, search: &mut Search) -> Result<(), AllocError>
     ensures added { OnOk result (search.new.found.items
         ≡ ((search.old.found.items
-        ++ flat_map (of_change at.entry.moment at.entry.state.now.table) past.now)
+        ++ flat_map (of_change at.entry.moment (noted at.entry.setup.now
+        at.entry.completed.now.severing.items at.entry.completed.now.canceled.items
+        at.entry.before at.entry.event at.entry.state.now) at.entry.state.now.table) past.now)
         ++ (of_overflow at.entry.moment at.entry.before.overflows (overflows at.entry.state.now)
         ++ (of_step at.entry.moment at.entry.before.changes
         (instruction_at at.entry.setup.now at.entry.event at.entry.before.counter)
@@ -181,12 +184,15 @@ impl Observer for Search {
 
     fn after(&mut self, at: Observed<'_>, past: &Record, note: Before) -> Result<(), AllocError> {
         let moment = at.index as u32;
+        let alloc = *self.found.allocator();
+        let completed = completed_by(alloc, at.state, past)?;
         let done = Transition {
             setup: at.setup,
             moment,
             event: at.event,
             before: note,
             state: at.state,
+            completed: &completed,
         };
         look(done, past, self)?;
         advance(at.setup, at.state, moment + 1, &mut self.watches);

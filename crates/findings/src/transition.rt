@@ -1,5 +1,6 @@
 //! An event that was done, with the facts before it and the state after it.
 
+use crate::completed::Completed;
 use crate::conditions::Before;
 use machine::{Event, Setup, State};
 
@@ -14,4 +15,6 @@ pub(crate) struct Transition<'a> {
     pub before: Before,
     /// The state after it.
     pub state: &'a State,
+    /// The requests that it completes.
+    pub completed: &'a Completed,
 }

@@ -1,0 +1,244 @@
+//! What a finding about a completed request depends on besides the request (read(2), write(2),
+//! io_uring_enter(2)).
+ghost use Rattle.std.specs.Prelude.{◌≡◌, ◌&&◌, false, slice_get};
+ghost use Rattle.std.specs.Option.{option_map_or};
+ghost use Rattle.std.specs.List.{list_any};
+ghost use Rattle.links_drains.specs.Holding.{is_number};
+ghost use Rattle.findings.specs.Endings.{is_right};
+ghost use Rattle.findings.specs.Conflicts.{moved, file_of};
+ghost use Rattle.findings.specs.Completions.{ends_before, is_short_of_end, is_later, member_of, limits, expires_over, could_finish, has_ready_target, expires_late, was_canceled, has_canceled_target};
+ghost use Rattle.findings.specs.Records.{is_severed_in, noted};
+
+use crate::completed::{Completed, Member};
+use crate::conflicts::{begins, moved, number_or_zero};
+use crate::ends::{is_canceled, result_in};
+use crate::files::file_of;
+use crate::leftover::row_at;
+use crate::transition::Transition;
+use entries::{Choice, Row};
+use finding_kinds::Verdict;
+use links_drains::is_guard;
+use machine::{Event, State};
+use opcodes::Op;
+use places::Place;
+
+/// Returns whether the verdict is the right one of a finding that is a fault exactly if the test
+/// holds.
+pub(crate) fn is_right(verdict: Verdict, test: bool) -> bool
+    ensures { result ≡ is_right verdict test }
+{
+    match verdict {
+        Verdict::Fault => test,
+        Verdict::Note => !test,
+    }
+}
+
+// ---- short transfers
+
+// Returns whether the `count` bytes that the transfer moved ended before the end of the file.
+fn ends_before(state: &State, count: u64, row: &Row, object: u32) -> bool
+    ensures { result ≡ ends_before state.now count row.now.entry object }
+{
+    let end = u128::from(begins(state, count, &row.entry)) + u128::from(count);
+    end < u128::from(number_or_zero(state.value(Place::FileLength(object))))
+}
+
+// Returns whether the transfer is of a regular file and stopped before the file's end.
+fn stopped_early(at: Transition<'_>, row: &Row) -> bool
+    ensures { result ≡ option_map_or
+        (ends_before at.entry.state.now (moved row.now.phase) row.now.entry)
+        (file_of at.entry.setup.now row.now.entry.fd) false }
+{
+    match file_of(at.setup, row.entry.fd) {
+        Some(object) => ends_before(at.state, moved(row.phase), row, object),
+        None => false,
+    }
+}
+
+/// Returns whether the request is a WRITE, or a READ of a regular file that stopped before the
+/// file's end.
+pub(crate) fn is_short_of_end(at: Transition<'_>, row: &Row) -> bool
+    ensures { result ≡ is_short_of_end at.entry.setup.now at.entry.state.now row.now }
+{
+    row.entry.opcode == Op::Write as u8 || stopped_early(at, row)
+}
+
+// ---- chains
+
+// Returns whether the second request is a later one of the first one's chain.
+fn is_later(member: Member, other: Member) -> bool
+    ensures { result ≡ is_later member other }
+{
+    member.number < other.number && other.unit == member.unit
+}
+
+fn has_later(members: &[Member], member: Member) -> bool
+    ensures { result ≡ list_any (is_later member) members.now }
+{
+    members.iter().any(|other| is_later(member, *other))
+}
+
+fn member_of(number: u32, row: &Row) -> Member
+    ensures { result ≡ member_of number row.now }
+{
+    Member {
+        number,
+        unit: row.unit,
+    }
+}
+
+/// Returns whether the event canceled a later request of the chain.
+pub(crate) fn severs_others(completed: &Completed, number: u32, row: &Row) -> bool
+    ensures { result ≡ list_any (is_later (member_of number row.now))
+        completed.now.canceled.items }
+{
+    has_later(&completed.canceled, member_of(number, row))
+}
+
+// Returns whether one request severed the chain of another, and the event canceled a later one.
+fn severs(canceled: &[Member], member: Member, other: Member) -> bool
+    ensures { result ≡ (is_later member other && list_any (is_later member) canceled.now) }
+{
+    is_later(member, other) && has_later(canceled, member)
+}
+
+// Returns whether an earlier request of the chain severed it.
+fn is_severed(severing: &[Member], canceled: &[Member], member: Member) -> bool
+    ensures { result ≡ is_severed_in severing.now canceled.now member }
+{
+    severing
+        .iter()
+        .any(|other| severs(canceled, *other, member))
+}
+
+// ---- linked timeouts
+
+fn is_number(number: Option<u32>, other: u32) -> bool
+    ensures { result ≡ is_number number other }
+{
+    match number {
+        Some(number) => number == other,
+        None => false,
+    }
+}
+
+// Returns whether the request is the linked timeout of another.
+fn limits(number: u32, row: &Row) -> bool
+    ensures { result ≡ limits number row.now }
+{
+    is_guard(row) && is_number(row.target, number)
+}
+
+fn limits_at(state: &State, guard: u32, number: u32) -> bool
+    ensures { result ≡ option_map_or (limits number) (slice_get state.now.table guard) false }
+{
+    match row_at(state, guard) {
+        Some(row) => limits(number, &row),
+        None => false,
+    }
+}
+
+// Returns whether the event is the expiry of the linked timeout of a request.
+fn expires_over(state: &State, event: Event, number: u32) -> bool
+    ensures { result ≡ expires_over state.now.table event number }
+{
+    match event {
+        Event::Expire(guard) => limits_at(state, guard, number),
+        _ => false,
+    }
+}
+
+/// Returns whether another finding of the event names a canceled request: an earlier request of its
+/// chain severed it, or its linked timeout expired.
+pub(crate) fn is_named(at: Transition<'_>, number: u32, row: &Row) -> bool
+    ensures { result ≡ (noted at.entry.setup.now at.entry.completed.now.severing.items
+        at.entry.completed.now.canceled.items at.entry.before at.entry.event at.entry.state.now
+        number row.now).is_named }
+{
+    let completed = at.completed;
+    is_severed(
+        &completed.severing,
+        &completed.canceled,
+        member_of(number, row),
+    ) || expires_over(at.state, at.event, number)
+}
+
+fn could_finish(state: &State, number: u32) -> bool
+    ensures { result ≡ could_finish state.now number }
+{
+    state
+        .refuses(Event::Finish(number, Choice::Full))
+        .is_none()
+}
+
+fn target_could_finish(state: &State, target: Option<u32>) -> bool
+    ensures { result ≡ option_map_or (could_finish state.now) target false }
+{
+    match target {
+        Some(number) => could_finish(state, number),
+        None => false,
+    }
+}
+
+// Returns whether the request is a linked timeout whose target could complete in full.
+fn has_ready_target(state: &State, row: &Row) -> bool
+    ensures { result ≡ has_ready_target state.now row.now }
+{
+    is_guard(row) && target_could_finish(state, row.target)
+}
+
+/// Returns whether the event is the expiry of a linked timeout whose target could complete in full,
+/// by the state before it.
+pub(crate) fn expires_late(state: &State, event: Event) -> bool
+    ensures { result ≡ expires_late state.now event }
+{
+    let Event::Expire(number) = event else {
+        return false;
+    };
+    match row_at(state, number) {
+        Some(row) => has_ready_target(state, &row),
+        None => false,
+    }
+}
+
+fn was_canceled(row: &Row) -> bool
+    ensures { result ≡ was_canceled row.now }
+{
+    match result_in(row.phase) {
+        Some(res) => is_canceled(res),
+        None => false,
+    }
+}
+
+fn was_canceled_at(state: &State, number: u32) -> bool
+    ensures { result ≡ option_map_or was_canceled (slice_get state.now.table number) false }
+{
+    match row_at(state, number) {
+        Some(row) => was_canceled(&row),
+        None => false,
+    }
+}
+
+fn has_canceled_target(state: &State, row: &Row) -> bool
+    ensures { result ≡ has_canceled_target state.now.table row.now }
+{
+    match row.target {
+        Some(target) => was_canceled_at(state, target),
+        None => false,
+    }
+}
+
+/// Returns whether the event is the expiry of this linked timeout, and canceled its target though
+/// that could have completed.
+pub(crate) fn was_ready(at: Transition<'_>, number: u32, row: &Row) -> bool
+    ensures { result ≡ (noted at.entry.setup.now at.entry.completed.now.severing.items
+        at.entry.completed.now.canceled.items at.entry.before at.entry.event at.entry.state.now
+        number row.now).was_ready }
+{
+    match at.event {
+        Event::Expire(guard) => {
+            guard == number && (at.before.was_ready && has_canceled_target(at.state, row))
+        }
+        _ => false,
+    }
+}
