@@ -1,12 +1,13 @@
 pub mod Members
 pub mod Groups
+pub mod Equality
 pub mod Notes
 pub mod Shown
 pub mod Noted
 pub mod Candidates
 pub mod Passing
 pub mod Waiting
-pub mod Timespecs
+pub mod OverwrittenTimes
 pub mod WouldConflict
 pub mod Draining
 pub mod Looking

@@ -19,7 +19,7 @@ use Rattle.findings.specs.Timespecs.{overwrites, of_timespecs}
 use Rattle.findings.specs.Records.{of_candidate, of_number, of_conflicts, of_effect, Covers}
 use Rattle.findings.proofs.Groups.{the_finding, group_only, group_there, is_conflict_kind}
 use Rattle.findings.proofs.Members.{Has, has_left, has_right, has_flat_map, contains_has}
-use Rattle.findings.proofs.Timespecs.{timespecs_only, timespecs_there}
+use Rattle.findings.proofs.OverwrittenTimes.{timespecs_only, timespecs_there}
 
 false_true : false ≡ true → ⊥
 false_true e = cc

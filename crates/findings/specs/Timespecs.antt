@@ -1,6 +1,6 @@
 -- Timespecs that are overwritten before the kernel reads them. It reads the one of a TIMEOUT or a
 -- LINK_TIMEOUT when it takes the entry (io_uring_enter(2)).
-use Rattle.std.specs.Prelude.{ℕ, ◌×◌, ◌==◌, Bool, false, ◌&&◌, if◌then◌else◌, slice_get, List, []}
+use Rattle.std.specs.Prelude.{ℕ, ◌==◌, Bool, false, ◌&&◌, if◌then◌else◌, slice_get, List, []}
 use Rattle.std.specs.Option.{option_map_or}
 use Rattle.std.specs.List.{flat_map}
 use Rattle.entries.specs.declared.entry.Sqe.{Sqe}

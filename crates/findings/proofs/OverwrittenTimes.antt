@@ -1,6 +1,6 @@
 -- The timespecs that an event overwrites are found among the pushed indexes.
-use Rattle.std.proofs.Common.{◌≡◌, inl, inr, ℕ, ◌+◌, ◌×◌, ◌≤◌, Bool, true, false, List, [], ◌∷◌, ◌++◌, length, take, drop, get_or, refl, sym, ap, ◌∙◌, subst}
-use Rattle.std.specs.Prelude.{Some, slice_get, ◌==◌, ◌||◌}
+use Rattle.std.proofs.Common.{◌≡◌, inl, inr, ℕ, ◌+◌, ◌≤◌, Bool, true, false, List, [], ◌∷◌, ◌++◌, length, take, drop, get_or, refl, sym, ap, ◌∙◌, subst}
+use Rattle.std.specs.Prelude.{Some, slice_get, ◌==◌, ◌||◌, ◌&&◌}
 use Rattle.std.specs.List.{All, flat_map, list_any}
 use Rattle.std.proofs.lemmas.Bool.{and_parts, and_from, eqb-true, eq-eqb}
 use Rattle.std.proofs.lemmas.Grind.{take_at_read}
@@ -57,11 +57,11 @@ any_has slots slot (w ∷ ws) (inr h) = by (w == slot) (any_has slots slot ws h)
 
 has_any : (slots : List Sqe) (slot : ℕ) (words : List ℕ) → list_any (is_sought slots (Named slot)) words ≡ true → Has words slot
 has_any slots slot [] h = cc
-has_any slots slot (w ∷ ws) h = by (w == slot) refl h
+has_any slots slot (w ∷ ws) h = by (w == slot) refl h (has_any slots slot ws)
   where
-    by : (b : Bool) → (w == slot) ≡ b → (b || list_any (is_sought slots (Named slot)) ws) ≡ true → Has (w ∷ ws) slot
-    by true e t = inl (eqb-true w slot e)
-    by false e t = inr (has_any slots slot ws t)
+    by : (b : Bool) → (w == slot) ≡ b → (b || list_any (is_sought slots (Named slot)) ws) ≡ true → (list_any (is_sought slots (Named slot)) ws ≡ true → Has ws slot) → Has (w ∷ ws) slot
+    by true e t ih = inl (eqb-true w slot e)
+    by false e t ih = inr (ih t)
 
 indexes_only : (P : Finding → Type 0) (i : ℕ) (slots : List Sqe) (range : ℕ × ℕ) (words : List ℕ) → ((slot : ℕ) → Has words slot → is_over_slot slots range slot ≡ true → P (the_finding i TimespecInUse slot))
     → All P (flat_map (of_index i slots range) words)
