@@ -26,11 +26,13 @@ fn rule_of_link(row: Option<Row>) -> &'static str {
 fn canceled_rows(alloc: Global, run: &Run<'_>, about: &About) -> Result<String, AllocError> {
     let mut rows = Listing::new(alloc);
     for number in about.row.unit..MOST_ROWS {
-        if !run.are_of_one_chain(about.number, number) {
-            break;
-        }
-        if number != about.number && run.is_canceled_at(number, about.moment) {
-            rows.add(alloc, run, number)?;
+        match run.row(number) {
+            Some(row) if row.unit == about.row.unit => {
+                if number != about.number && run.is_canceled_at(number, about.moment) {
+                    rows.add(alloc, run, number)?;
+                }
+            }
+            _ => break,
         }
     }
     rows.finish(alloc)

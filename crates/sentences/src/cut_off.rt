@@ -6,6 +6,6 @@ use finding_kinds::Verdict;
 pub(super) fn cut_off(verdict: Verdict) -> &'static str {
     match verdict {
         Verdict::Fault => "",
-        Verdict::Note => " The run just ends: something could still happen.",
+        Verdict::Note => " Something could still happen: the run just ends.",
     }
 }
