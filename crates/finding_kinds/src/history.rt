@@ -8,6 +8,9 @@ pub struct Times {
     pub queued: u32,
     pub issued: Option<u32>,
     pub ended: Option<u32>,
+    /// For a request that an issued LINK_TIMEOUT limits: the moment before the event since which it
+    /// could complete in full. None while it can't.
+    pub ready: Option<u32>,
 }
 
 impl Times {
@@ -43,6 +46,33 @@ pub struct Met {
     pub slot: u32,
 }
 
+/// A completion that a thread reaped by the event at this moment.
+#[derive(Clone, Copy)]
+pub struct Reaped {
+    pub moment: u32,
+    pub thread: u32,
+    pub user_data: u64,
+}
+
+/// The close, at this moment, of an open descriptor of the setup.
+#[derive(Clone, Copy)]
+pub struct Closed {
+    pub moment: u32,
+    pub descriptor: u32,
+}
+
+/// An FSYNC that completed without error at this moment, after an earlier one of its file failed.
+#[derive(Clone, Copy)]
+pub struct Retried {
+    pub moment: u32,
+    /// The last FSYNC of the file that failed with EIO.
+    pub row: u32,
+    /// The moment before the event that completed it.
+    pub event: u32,
+    /// How many bytes that were not durable then have not been written again.
+    pub bytes: u32,
+}
+
 /// When requests changed phase, and other facts that sentences refer to.
 pub struct History {
     /// One element per request.
@@ -56,6 +86,20 @@ pub struct History {
     pub emptied: Vec<u32>,
     /// For each event that dropped indexes, in order: its moment, and sq.dropped after it.
     pub dropped: Vec<(u32, u32)>,
+    /// For each slot up to the highest that was put: the moments before its puts, in order.
+    pub puts: Vec<Vec<u32>>,
+    /// How many indexes of the submission ring have been consumed, modulo 2^32.
+    pub consumed: u32,
+    /// For each request, the slot from which its entry was taken.
+    pub origins: Vec<u32>,
+    /// In the order of their moments, at most one per moment.
+    pub reaps: Vec<Reaped>,
+    /// In the order of their moments, at most one per descriptor.
+    pub closes: Vec<Closed>,
+    /// The incomplete requests that issued LINK_TIMEOUTs limit.
+    pub limited: Vec<u32>,
+    /// In the order of their moments, at most one per moment.
+    pub retried: Vec<Retried>,
 }
 
 impl Drop for History {
@@ -66,6 +110,13 @@ impl Drop for History {
             slots: _,
             emptied: _,
             dropped: _,
+            puts: _,
+            consumed: _,
+            origins: _,
+            reaps: _,
+            closes: _,
+            limited: _,
+            retried: _,
         } = self;
     }
 }
@@ -79,6 +130,13 @@ impl History {
             slots: Vec::new(alloc),
             emptied: Vec::new(alloc),
             dropped: Vec::new(alloc),
+            puts: Vec::new(alloc),
+            consumed: 0,
+            origins: Vec::new(alloc),
+            reaps: Vec::new(alloc),
+            closes: Vec::new(alloc),
+            limited: Vec::new(alloc),
+            retried: Vec::new(alloc),
         }
     }
 }

@@ -19,7 +19,7 @@ use crate::completed::completed_by;
 use crate::conditions::{Before, overflows, slot_met};
 use crate::effect::done_as;
 use crate::leftover::add_all_left;
-use crate::noting::{note_counter, note_dropped, note_emptied, note_slot};
+use crate::noting::{note_counter, note_dropped, note_emptied, note_event, note_slot};
 use crate::ordering::in_order;
 use crate::record::{add_of_effect, add_of_event};
 use crate::transition::Transition;
@@ -72,6 +72,7 @@ fn note(at: Transition<'_>, history: &mut History) -> Result<(), AllocError> {
     note_slot(&mut history.slots, at.moment, slot)?;
     let dropped = at.state.submissions().dropped();
     note_dropped(&mut history.dropped, at.moment, dropped)?;
+    note_event(at, history)?;
     let is_emptied = at.before.overflows && !overflows(at.state);
     note_emptied(
         &mut history.emptied,

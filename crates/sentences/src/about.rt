@@ -1,22 +1,24 @@
-//! Findings about rows.
+//! The row that a finding is about.
 
 use crate::names::RowName;
 use crate::run::Run;
 use entries::Row;
 use finding_kinds::Finding;
 
-/// A finding about a row: its number, the row at the end of the run, and the event's moment.
+/// What a finding says about a row.
 #[derive(Clone, Copy)]
 pub(crate) struct About {
     pub number: u32,
+    /// The row at the end of the run.
     pub row: Row,
+    /// The moment of the finding.
     pub moment: u32,
-    /// Its index among all findings.
+    /// The index of the finding in the list of all.
     pub index: usize,
 }
 
 impl About {
-    /// Returns what a finding, with this index among all, says about its row, if there is one.
+    /// Returns what a finding says about its row, or None if there is no row with that number.
     pub fn new(run: &Run<'_>, finding: &Finding, index: usize) -> Option<About> {
         Some(About {
             number: finding.subject,
@@ -30,7 +32,7 @@ impl About {
         RowName::new(self.number, &self.row)
     }
 
-    /// The result with which the row ended; every row of a finding has one.
+    /// Returns the result with which the row completed, or 0 if it hasn't.
     pub fn result(&self, run: &Run<'_>) -> i32 {
         run.result(self.number).unwrap_or(0)
     }

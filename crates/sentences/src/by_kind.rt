@@ -7,7 +7,7 @@ use crate::run::Run;
 use crate::uses::UserPhase;
 use crate::{cancels, chains, conflicts, durable, errors, left, matches, rings, uses};
 use finding_kinds::{
-    CancelKind, ConflictKind, EndedKind, Finding, Kind, LastingKind, LeftKind, QueuedKind, StepKind,
+    CancelKind, ConflictKind, EndedKind, Kind, LastingKind, LeftKind, QueuedKind, StepKind, Verdict,
 };
 use std::alloc::{AllocError, Global};
 
@@ -27,13 +27,39 @@ fn expired(alloc: Global, about: &About) -> Result<String, AllocError> {
     format!(in alloc; "Row {name} completed with -62 (ETIME): its time was up {TIMEOUT_RULE}.")
 }
 
-// What became of the target of a LINK_TIMEOUT that expired.
-fn timed_out(alloc: Global, run: &Run<'_>, about: &About) -> Result<String, AllocError> {
+// Returns since when the target of an expired LINK_TIMEOUT could have completed.
+fn since(alloc: Global, run: &Run<'_>, target: u32) -> Result<String, AllocError> {
+    let (issued, ready) = match run.times_of(target) {
+        Some(times) => (times.issued, times.ready),
+        None => (None, None),
+    };
+    match ready {
+        Some(event) if issued == Some(event) => {
+            format!(in alloc; "was there already when it was issued, at event {event}")
+        }
+        Some(event) => format!(in alloc; "had been there since event {event}"),
+        None => String::from_str(alloc, "was there"),
+    }
+}
+
+// Returns what became of the target of an expired LINK_TIMEOUT.
+fn timed_out(
+    alloc: Global,
+    run: &Run<'_>,
+    verdict: Verdict,
+    about: &About,
+) -> Result<String, AllocError> {
     let name = about.name();
     let target = about.row.target.unwrap_or(0);
     let Some(of) = run.name(target) else {
         return format!(in alloc; "Row {name} expired {LINK_TIMEOUT_RULE}.");
     };
+    if let Verdict::Fault = verdict {
+        let since = since(alloc, run, target)?;
+        return format!(in alloc;
+            "Row {name} expired and canceled its target, row {of}, with -125 (ECANCELED), though what it waited for {since} {LINK_TIMEOUT_RULE}."
+        );
+    }
     if run.ends_at(target, about.moment) {
         return format!(in alloc;
             "Row {name} expired and canceled its target, row {of}, with -125 (ECANCELED). That says nothing about what the target waited for, which may be there by now {LINK_TIMEOUT_RULE}."
@@ -52,10 +78,10 @@ fn ended_sentence(
 ) -> Result<String, AllocError> {
     match kind {
         EndedKind::Failed => errors::failed(alloc, run, about),
-        EndedKind::Short => short(alloc, run, about),
+        EndedKind::Short(_) => short(alloc, run, about),
         EndedKind::Severed => chains::severed(alloc, run, about),
         EndedKind::Canceled => chains::canceled(alloc, run, about),
-        EndedKind::TimedOut => timed_out(alloc, run, about),
+        EndedKind::TimedOut(verdict) => timed_out(alloc, run, verdict, about),
         EndedKind::Expired => expired(alloc, about),
         EndedKind::NotFound => cancels::not_found(alloc, run, about),
         EndedKind::TooLate => cancels::too_late(alloc, run, about),
@@ -67,13 +93,15 @@ fn lasting_sentence(
     alloc: Global,
     run: &Run<'_>,
     kind: LastingKind,
-    finding: &Finding,
+    thread: u32,
+    since: u32,
 ) -> Result<String, AllocError> {
     match kind {
-        LastingKind::Waits => rings::waits(alloc, run, finding.subject, finding.moment),
+        LastingKind::Waits(verdict) => rings::waits(alloc, run, verdict, thread, since),
         LastingKind::LostWakeUp => rings::lost_wake_up(alloc, run),
-        LastingKind::NotTaken => rings::not_taken(alloc, run),
+        LastingKind::NotTaken(verdict) => rings::not_taken(alloc, run, verdict),
         LastingKind::NotReaped => rings::not_reaped(alloc, run),
+        LastingKind::Stuck => rings::stuck(alloc, run, thread),
     }
 }
 
@@ -84,8 +112,8 @@ fn left_sentence(
     subject: u32,
 ) -> Result<String, AllocError> {
     match kind {
-        LeftKind::Unfinished => left::unfinished(alloc, run, subject),
-        LeftKind::NotDurable => durable::not_durable(alloc, run, subject),
+        LeftKind::Unfinished(verdict) => left::unfinished(alloc, run, verdict, subject),
+        LeftKind::NotDurable(_) => durable::not_durable(alloc, run, subject),
     }
 }
 
@@ -99,7 +127,7 @@ fn conflict_sentence(
         ConflictKind::BufferInUse => conflicts::buffer_in_use(alloc, run, about),
         ConflictKind::Unordered => conflicts::unordered(alloc, run, about),
         ConflictKind::SharedPosition => conflicts::shared_position(alloc, run, about),
-        ConflictKind::FsyncEarly => conflicts::fsync_early(alloc, run, about),
+        ConflictKind::FsyncEarly(_) => conflicts::fsync_early(alloc, run, about),
     }
 }
 
@@ -118,6 +146,7 @@ fn step_sentence(
         StepKind::ClosedEarly => uses::closed(alloc, run, thread, moment, UserPhase::Queued),
         StepKind::ClosedWhileHeld => uses::closed(alloc, run, thread, moment, UserPhase::Issued),
         StepKind::RefusedFlags => rings::refused_flags(alloc, run, thread, moment),
+        StepKind::ClosedTwice => uses::closed_twice(alloc, run, thread, moment),
     }
 }
 
@@ -147,7 +176,7 @@ fn cancel_sentence(
     }
 }
 
-/// The sentence of a finding, by its place in the list of the findings of a run.
+/// Returns the sentence of a finding, by its index in the list of the findings of a run.
 pub fn sentence(alloc: Global, run: &Run<'_>, index: usize) -> Result<String, AllocError> {
     let Some(finding) = run.found.get(index) else {
         return Ok(String::new(alloc));
@@ -155,15 +184,22 @@ pub fn sentence(alloc: Global, run: &Run<'_>, index: usize) -> Result<String, Al
     let (subject, moment) = (finding.subject, finding.moment);
     match (finding.kind, About::new(run, finding, index)) {
         (Kind::Overflow, _) => rings::overflow(alloc, run, moment),
-        (Kind::Lasting(kind), _) => lasting_sentence(alloc, run, kind, finding),
+        (Kind::Lasting(kind), _) => lasting_sentence(alloc, run, kind, subject, moment),
         (Kind::Left(kind), _) => left_sentence(alloc, run, kind, subject),
         (Kind::Step(kind), _) => step_sentence(alloc, run, kind, subject, moment),
+        (Kind::TimespecInUse, _) => conflicts::timespec_in_use(alloc, run, subject, moment),
         (Kind::Ended(kind), Some(about)) => ended_sentence(alloc, run, kind, &about),
         (Kind::Conflict(kind), Some(about)) => conflict_sentence(alloc, run, kind, &about),
         (Kind::Queued(kind), Some(about)) => queued_sentence(alloc, run, kind, &about),
         (Kind::Cancel(kind), Some(about)) => cancel_sentence(alloc, run, kind, &about),
-        (Kind::Ended(_) | Kind::Conflict(_) | Kind::Queued(_) | Kind::Cancel(_), None) => {
-            Ok(String::new(alloc))
-        }
+        (Kind::FsyncRetried, Some(about)) => durable::fsync_retried(alloc, run, &about),
+        (
+            Kind::Ended(_)
+            | Kind::Conflict(_)
+            | Kind::Queued(_)
+            | Kind::Cancel(_)
+            | Kind::FsyncRetried,
+            None,
+        ) => Ok(String::new(alloc)),
     }
 }

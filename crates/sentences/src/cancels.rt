@@ -19,7 +19,7 @@ fn is_by_descriptor(entry: &Sqe) -> bool {
     entry.opcode == Op::AsyncCancel as u8 && entry.operation_flags & IORING_ASYNC_CANCEL_FD != 0
 }
 
-/// The rule of a cancel or a removal.
+/// Returns the rule of a cancel or a removal.
 pub(super) fn rule_of(entry: &Sqe) -> &'static str {
     if entry.opcode == Op::PollRemove as u8 {
         return POLL_REMOVE_RULE;
@@ -30,7 +30,7 @@ pub(super) fn rule_of(entry: &Sqe) -> &'static str {
     CANCEL_RULE
 }
 
-// Whether a row is of an opcode that an entry can cancel or remove.
+// Returns whether a cancel or removal can match a row with this opcode.
 fn fits_opcode(entry: &Sqe, row: &Row) -> bool {
     if entry.opcode == Op::PollRemove as u8 {
         return row.entry.opcode == Op::PollAdd as u8;
@@ -41,7 +41,7 @@ fn fits_opcode(entry: &Sqe, row: &Row) -> bool {
     row.entry.opcode != Op::LinkTimeout as u8
 }
 
-// What it finds of rows with the user_data.
+// Returns which opcodes a cancel or removal matches.
 fn what_it_finds(entry: &Sqe) -> &'static str {
     if entry.opcode == Op::PollRemove as u8 {
         return "POLL_REMOVE finds only POLL_ADDs";
@@ -52,12 +52,13 @@ fn what_it_finds(entry: &Sqe) -> &'static str {
     "ASYNC_CANCEL finds no LINK_TIMEOUT"
 }
 
-// Whether a row uses the descriptor that an entry names.
+// Returns whether a row uses the descriptor that an entry names.
 fn names_descriptor(entry: &Sqe, row: &Row) -> bool {
     uses_descriptor(row.entry.opcode) && row.entry.fd == entry.fd
 }
 
-// Whether a row that had come by a moment has the user_data that an entry looks for.
+// Returns whether a row was submitted before the cancel completed, and has the user_data that the
+// cancel names.
 fn is_candidate(run: &Run<'_>, about: &About, number: u32, row: &Row) -> bool {
     let queued = match run.times_of(number) {
         Some(times) => times.queued < about.moment,
@@ -73,7 +74,8 @@ fn is_queued(run: &Run<'_>, number: u32, moment: u32) -> bool {
     }
 }
 
-// How near such a row is to one that the entry finds: of another opcode, ended, or queued still.
+// Returns how close a row is to a match: 0 if it is no candidate, 1 if its opcode can't match, 2 if
+// it has completed, 3 if it is still queued.
 fn nearness(run: &Run<'_>, about: &About, number: u32, row: &Row) -> u8 {
     if !is_candidate(run, about, number, row) {
         return 0;
@@ -88,7 +90,8 @@ fn nearness(run: &Run<'_>, about: &About, number: u32, row: &Row) -> u8 {
     }
 }
 
-// The nearest of them. Of several it is the last one; of another opcode, the first.
+// Returns the row that is closest to a match. Among equals it is the last, but the first of those
+// whose opcode can't match.
 fn nearest_candidate(run: &Run<'_>, about: &About) -> Option<u32> {
     let (mut nearest, mut most) = (None, 0);
     for number in 0..run.history.rows.len().min(MOST_ROWS as usize) as u32 {
@@ -102,7 +105,7 @@ fn nearest_candidate(run: &Run<'_>, about: &About) -> Option<u32> {
     nearest
 }
 
-// Why a cancel found no row of a number.
+// Returns why a cancel did not match a row.
 fn reason_of(
     alloc: Global,
     run: &Run<'_>,
@@ -146,7 +149,7 @@ fn reason_by_user_data(alloc: Global, run: &Run<'_>, about: &About) -> Result<St
     }
 }
 
-// The first queued row that names the descriptor of which a cancel found no request.
+// Returns the first queued row that names the descriptor of a cancel.
 fn queued_user(run: &Run<'_>, about: &About) -> Option<u32> {
     for number in 0..run.history.rows.len().min(MOST_ROWS as usize) as u32 {
         if let Some(row) = run.row(number) {
@@ -175,7 +178,7 @@ fn reason_by_descriptor(alloc: Global, run: &Run<'_>, about: &About) -> Result<S
     }
 }
 
-// What the result of a cancel of all says that found nothing.
+// Returns what the result of a cancel that matched nothing means, if it is no error.
 fn what_counts(res: i32) -> &'static str {
     if res < 0 {
         return "";
@@ -183,7 +186,7 @@ fn what_counts(res: i32) -> &'static str {
     ", the number of requests that it canceled"
 }
 
-/// A cancel or a removal that found nothing.
+/// Returns the sentence of a cancel or removal that matched nothing.
 pub(crate) fn not_found(alloc: Global, run: &Run<'_>, about: &About) -> Result<String, AllocError> {
     let name = about.name();
     let rule = rule_of(&about.row.entry);
@@ -197,7 +200,8 @@ pub(crate) fn not_found(alloc: Global, run: &Run<'_>, about: &About) -> Result<S
     format!(in alloc; "Row {name} completed with {result_name}{count}: {reason} {rule}.")
 }
 
-/// The first row from a number on that a cancel found as it ended, by its user_data or descriptor.
+/// Returns the first row from a number on that a cancel matched when it completed, by its user_data
+/// or its descriptor.
 pub(super) fn next_found(run: &Run<'_>, about: &About, from: u32) -> Option<u32> {
     for number in from..run.history.rows.len().min(MOST_ROWS as usize) as u32 {
         if let Some(row) = run.row(number) {
@@ -222,7 +226,7 @@ fn is_found(run: &Run<'_>, about: &About, number: u32, row: &Row) -> bool {
     issued && number != about.number && fits && fits_opcode(&about.row.entry, row)
 }
 
-// What became of a row that was running.
+// Returns what became of a row that was running.
 fn became(alloc: Global, run: &Run<'_>, number: u32) -> Result<String, AllocError> {
     let ended = match run.times_of(number) {
         Some(times) => times.ended,
@@ -237,7 +241,7 @@ fn became(alloc: Global, run: &Run<'_>, number: u32) -> Result<String, AllocErro
     }
 }
 
-// What to mind until a row's own completion.
+// Returns what to avoid until a row completes.
 fn advice_of(run: &Run<'_>, number: u32) -> &'static str {
     match run.row(number) {
         Some(row) if row.entry.opcode == Op::Read as u8 || row.entry.opcode == Op::Write as u8 => {
@@ -247,7 +251,7 @@ fn advice_of(run: &Run<'_>, number: u32) -> &'static str {
     }
 }
 
-/// A cancel that found a request that was running.
+/// Returns the sentence of a cancel that matched a running request.
 pub(crate) fn too_late(alloc: Global, run: &Run<'_>, about: &About) -> Result<String, AllocError> {
     let name = about.name();
     let rule = rule_of(&about.row.entry);

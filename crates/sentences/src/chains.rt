@@ -1,4 +1,4 @@
-//! Sentences about chains that were severed, and rows that were canceled.
+//! Sentences about broken and unbroken links, and about rows that were canceled.
 
 use crate::about::About;
 use crate::cancels::rule_of;
@@ -7,13 +7,13 @@ use crate::names::ResultName;
 use crate::rules::{ERROR_RULE, LINK_RULE, LINK_TIMEOUT_RULE};
 use crate::run::Run;
 use entries::{IOSQE_IO_HARDLINK, Row};
-use finding_kinds::distance_to_next;
+use finding_kinds::{MOST_ROWS, distance_to_next};
 use machine::Event;
 use std::alloc::{AllocError, Global};
 
 const HARD_RULE: &str = "(io_uring_enter(2), IOSQE_IO_HARDLINK)";
 
-// The rule of a row's link.
+// Returns the rule of a row's link.
 fn rule_of_link(row: Option<Row>) -> &'static str {
     match row {
         Some(row) if row.entry.flags & IOSQE_IO_HARDLINK != 0 => HARD_RULE,
@@ -21,63 +21,55 @@ fn rule_of_link(row: Option<Row>) -> &'static str {
     }
 }
 
-// Names the rows that ended with a chain, the first of them and how many there were.
-fn cut_rows(alloc: Global, run: &Run<'_>, about: &About) -> Result<String, AllocError> {
+// Lists the other rows of a row's chain that completed with ECANCELED by the same event. The rows
+// of a chain are consecutive.
+fn canceled_rows(alloc: Global, run: &Run<'_>, about: &About) -> Result<String, AllocError> {
     let mut rows = Listing::new(alloc);
-    let mut from = about.index;
-    for _index in 0..run.found.len() {
-        let Some(at) = run.next_cut(from, about.number, about.moment) else {
-            break;
-        };
-        if let Some(finding) = run.found.get(at) {
-            rows.add(alloc, run, finding.subject)?;
+    for number in about.row.unit..MOST_ROWS {
+        match run.row(number) {
+            Some(row) if row.unit == about.row.unit => {
+                if number != about.number && run.is_canceled_at(number, about.moment) {
+                    rows.add(alloc, run, number)?;
+                }
+            }
+            _ => break,
         }
-        from = at.saturating_add(1);
     }
     rows.finish(alloc)
 }
 
-/// A soft link that broke, and the rows that ended with it.
+/// Returns the sentence of a soft link that broke, with the rows that it canceled.
 pub(crate) fn severed(alloc: Global, run: &Run<'_>, about: &About) -> Result<String, AllocError> {
     let name = about.name();
     let result_name = ResultName(about.result(run));
-    let rows = cut_rows(alloc, run, about)?;
-    if rows.is_empty() {
-        return format!(in alloc;
-            "Row {name} completed with {result_name}, which broke its soft link; no later row of its chain was left to cancel {LINK_RULE}."
-        );
-    }
+    let rows = canceled_rows(alloc, run, about)?;
     format!(in alloc;
         "Row {name} completed with {result_name}, which broke its soft link. It canceled {rows}, with -125 (ECANCELED) {LINK_RULE}."
     )
 }
 
-// Why a row was cancelled.
+/// Why a row was canceled. A row after a broken soft link, or whose LINK_TIMEOUT expired, is named
+/// by the finding about that instead.
 #[derive(Clone, Copy)]
 enum Cause {
-    /// This row broke its chain.
-    Chain(u32),
-    /// Its target, which completed.
+    /// The row is a LINK_TIMEOUT, and this is its target, which completed.
     Target(u32),
-    /// This row cancelled it.
+    /// This cancel or removal matched the row.
     Cancel(u32),
-    /// This LINK_TIMEOUT, whose target it is, expired.
-    Guard(u32),
     /// This row of its chain failed as it was submitted.
     Failure(u32),
     None,
 }
 
-// Why a row was cancelled, as the event says.
+// Returns the cancel or removal that the event completed, if it is another row.
 fn cause_in_event(run: &Run<'_>, about: &About) -> Cause {
     match run.event(about.moment) {
         Some(Event::Finish(by, _)) if by != about.number => Cause::Cancel(by),
-        Some(Event::Expire(by)) if by != about.number => Cause::Guard(by),
         _ => Cause::None,
     }
 }
 
-// The row that failed as its chain was submitted.
+// Returns the row that failed as the chain was submitted.
 fn failing(run: &Run<'_>, about: &About) -> Option<u32> {
     if run.times_of(about.number)?.queued != about.moment {
         return None;
@@ -86,9 +78,6 @@ fn failing(run: &Run<'_>, about: &About) -> Option<u32> {
 }
 
 fn cause_of(run: &Run<'_>, about: &About) -> Cause {
-    if let Some(by) = run.severing(about.index, about.number, about.moment) {
-        return Cause::Chain(by);
-    }
     if let Some(by) = failing(run, about) {
         return Cause::Failure(by);
     }
@@ -98,37 +87,30 @@ fn cause_of(run: &Run<'_>, about: &About) -> Cause {
     }
 }
 
-// The row that a cause names.
+// Returns the row that a cause names.
 fn row_of(cause: Cause) -> Option<u32> {
     match cause {
-        Cause::Chain(by)
-        | Cause::Target(by)
-        | Cause::Cancel(by)
-        | Cause::Guard(by)
-        | Cause::Failure(by) => Some(by),
+        Cause::Target(by) | Cause::Cancel(by) | Cause::Failure(by) => Some(by),
         Cause::None => None,
     }
 }
 
-// What it did.
+// Returns what that row did.
 fn cause_text(cause: Cause) -> &'static str {
     match cause {
-        Cause::Chain(_) => " broke its chain",
         Cause::Target(_) => ", its target, completed first",
         Cause::Cancel(_) => " canceled it",
-        Cause::Guard(_) => " expired",
         Cause::Failure(_) => ", in its chain, failed as it was submitted",
         Cause::None => "it was canceled",
     }
 }
 
-// The rule that it did it by, to a row.
+// Returns the rule by which the cause canceled a row.
 fn rule_of_cause(run: &Run<'_>, cause: Cause, number: u32) -> &'static str {
     match cause {
-        Cause::Chain(_) => LINK_RULE,
         Cause::Failure(by) if by < number => rule_of_link(run.row(number.saturating_sub(1))),
         Cause::Failure(_) => rule_of_link(run.row(number)),
-        Cause::Target(_) | Cause::Guard(_) => LINK_TIMEOUT_RULE,
+        Cause::Target(_) => LINK_TIMEOUT_RULE,
         Cause::Cancel(by) => match run.row(by) {
             Some(row) => rule_of(&row.entry),
             None => ERROR_RULE,
@@ -137,7 +119,7 @@ fn rule_of_cause(run: &Run<'_>, cause: Cause, number: u32) -> &'static str {
     }
 }
 
-/// A request that was cancelled.
+/// Returns the sentence of a request that was canceled, with the cause.
 pub(crate) fn canceled(alloc: Global, run: &Run<'_>, about: &About) -> Result<String, AllocError> {
     let name = about.name();
     let cause = cause_of(run, about);
@@ -157,7 +139,7 @@ pub(crate) fn canceled(alloc: Global, run: &Run<'_>, about: &About) -> Result<St
     }
 }
 
-/// Returns the sentence of a hard link that held after a failure.
+/// Returns the sentence of a hard-linked row that failed or was short while its chain continued.
 pub(crate) fn went_on(alloc: Global, run: &Run<'_>, about: &About) -> Result<String, AllocError> {
     let name = about.name();
     let result_name = ResultName(about.result(run));
@@ -170,7 +152,7 @@ pub(crate) fn went_on(alloc: Global, run: &Run<'_>, about: &About) -> Result<Str
     }
 }
 
-/// A link to an entry that didn't come with it.
+/// Returns the sentence of a link from the last entry of a submission.
 pub(crate) fn cut_off(alloc: Global, run: &Run<'_>, about: &About) -> Result<String, AllocError> {
     let name = about.name();
     let reason = if !run.setup.submit_all && run.ends_at(about.number, about.moment) {

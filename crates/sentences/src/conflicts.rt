@@ -1,11 +1,17 @@
-//! Sentences about requests that conflict with what an event did before they completed.
+//! Sentences about events that conflict with incomplete requests, or with pushed entries.
 
 use crate::about::About;
+use crate::bytes::overwritten;
 use crate::counted::Counted;
 use crate::names::RowName;
-use crate::run::Run;
-use machine::Event;
+use crate::opcode_names::OpcodeName;
+use crate::run::{Run, ThreadStep};
+use entries::Sqe;
+use machine::{Event, Instruction};
 use std::alloc::{AllocError, Global};
+
+/// The size of a timespec: two numbers of 8 bytes (io_uring_enter(2), IORING_OP_TIMEOUT).
+const TIMESPEC_BYTES: u64 = 16;
 
 const READ_RULE: &str = "(read(2), write(2), io_uring_enter(2))";
 
@@ -15,7 +21,7 @@ const POSITION_RULE: &str = "(lseek(2), pread(2))";
 
 const SYNC_RULE: &str = "(fsync(2), io_uring_enter(2), IORING_OP_FSYNC)";
 
-// How far the row was as its bytes were met.
+// Returns the phase of the row before the event in question.
 fn stage(run: &Run<'_>, about: &About) -> &'static str {
     match run.times_of(about.number) {
         Some(times) if times.is_issued_at(about.moment) => "issued",
@@ -23,7 +29,7 @@ fn stage(run: &Run<'_>, about: &About) -> &'static str {
     }
 }
 
-// The row that the event at a moment ended.
+// Returns the row that the event at a moment completed.
 fn ended_at(run: &Run<'_>, moment: u32) -> Option<RowName> {
     match run.event(moment) {
         Some(Event::Finish(number, _)) => run.name(number),
@@ -31,20 +37,31 @@ fn ended_at(run: &Run<'_>, moment: u32) -> Option<RowName> {
     }
 }
 
-// What wrote into the buffer.
-fn writer(alloc: Global, run: &Run<'_>, about: &About) -> Result<String, AllocError> {
-    if let Some(by) = ended_at(run, about.moment) {
-        return format!(in alloc; "row {by} transferred bytes");
+// Returns what the event at a moment did to which bytes of a range of memory: the row or the
+// instruction, with its verb.
+fn writer(
+    alloc: Global,
+    run: &Run<'_>,
+    moment: u32,
+    first: u64,
+    count: u64,
+) -> Result<String, AllocError> {
+    let bytes = overwritten(alloc, run, moment, first, count)?;
+    if let Some(by) = ended_at(run, moment) {
+        return format!(in alloc; "row {by} transferred {bytes}");
     }
-    match (run.event(about.moment), run.counter(about.moment)) {
-        (Some(Event::Step(thread)), Some(counter)) => {
-            format!(in alloc; "thread {thread}, instruction {counter}, stored bytes")
-        }
-        _ => String::from_str(alloc, "bytes were written"),
+    match run.thread_step(moment) {
+        Some(
+            ThreadStep {
+                thread,
+                instruction,
+            },
+        ) => format!(in alloc; "thread {thread}, instruction {instruction}, stored {bytes}"),
+        None => format!(in alloc; "{bytes} were written"),
     }
 }
 
-/// Bytes in the buffer of a READ or a WRITE that hadn't ended.
+/// Returns the sentence of a buffer of an incomplete READ or WRITE that was overwritten.
 pub(crate) fn buffer_in_use(
     alloc: Global,
     run: &Run<'_>,
@@ -52,12 +69,39 @@ pub(crate) fn buffer_in_use(
 ) -> Result<String, AllocError> {
     let name = about.name();
     let stage = stage(run, about);
-    let writer = writer(alloc, run, about)?;
     let number = about.number;
     let address = about.row.entry.addr;
-    let buffer = Counted::bytes(u64::from(about.row.entry.len));
+    let len = u64::from(about.row.entry.len);
+    let writer = writer(alloc, run, about.moment, address, len)?;
+    let buffer = Counted::bytes(len);
     format!(in alloc;
         "Row {name} was {stage} as {writer} into row {number}'s buffer ({buffer} from address {address} on), and nothing orders the two. Until a request completes, its buffer belongs to the kernel {READ_RULE}."
+    )
+}
+
+// Returns the entry that a slot had at a moment, if it was put.
+fn entry_in(run: &Run<'_>, slot: u32, moment: u32) -> Option<Sqe> {
+    match run.instruction(run.last_put(slot, moment)?)? {
+        Instruction::Put(_, entry) => Some(*entry),
+        _ => None,
+    }
+}
+
+/// Returns the sentence of a timespec that was overwritten before the kernel took its entry.
+pub(crate) fn timespec_in_use(
+    alloc: Global,
+    run: &Run<'_>,
+    slot: u32,
+    moment: u32,
+) -> Result<String, AllocError> {
+    let Some(entry) = entry_in(run, slot, moment) else {
+        return Ok(String::new(alloc));
+    };
+    let (operation, user_data) = (OpcodeName(entry.opcode), entry.user_data);
+    let address = entry.addr;
+    let writer = writer(alloc, run, moment, address, TIMESPEC_BYTES)?;
+    format!(in alloc;
+        "The entry in slot {slot} ({operation}, user_data {user_data}) was pushed and not yet taken as {writer} into its timespec ({TIMESPEC_BYTES} bytes from address {address} on). The kernel reads the timespec when it takes the entry (io_uring_enter(2))."
     )
 }
 
@@ -90,7 +134,7 @@ pub(crate) fn shared_position(
     )
 }
 
-/// A WRITE that an FSYNC came before.
+/// Returns the sentence of a WRITE that was incomplete as a later FSYNC of its file completed.
 pub(crate) fn fsync_early(
     alloc: Global,
     run: &Run<'_>,

@@ -1,8 +1,8 @@
-//! Numbers of things, with the noun in the singular or the plural.
+//! Counts with their nouns, as in `1 byte` and `2 bytes`.
 
 use std::fmt;
 
-/// A number, and the noun for one thing and for several.
+/// A count, and its noun in the singular and in the plural.
 #[derive(Clone, Copy)]
 pub struct Counted {
     count: u64,

@@ -1,5 +1,6 @@
-//! Sentences about files that aren't durable at the end.
+//! Sentences about files that aren't durable at the end, and about a repeated FSYNC.
 
+use crate::about::About;
 use crate::counted::Counted;
 use crate::run::Run;
 use finding_kinds::{differs_at, number_at};
@@ -8,7 +9,7 @@ use std::alloc::{AllocError, Global};
 
 const SYNC_RULE: &str = "(fsync(2))";
 
-/// Where a file differs from its durable copy.
+/// The bytes in which a file differs from its durable copy: the first, the last, and how many.
 #[derive(Clone, Copy)]
 struct Differing {
     first: u32,
@@ -17,7 +18,7 @@ struct Differing {
 }
 
 impl Differing {
-    // Adds a byte after the others.
+    // Returns the same bytes and one more, which is after them.
     fn with(differing: Option<Differing>, at: u32) -> Differing {
         match differing {
             Some(found) => Differing {
@@ -34,7 +35,7 @@ impl Differing {
     }
 }
 
-// Returns the number in a place of a file at the end.
+// Returns a file's length, or its durable length, at the end of the run.
 fn number(run: &Run<'_>, place: Place) -> u32 {
     match number_at(run.state, place) {
         Some(number) => number.min(65536) as u32,
@@ -42,7 +43,7 @@ fn number(run: &Run<'_>, place: Place) -> u32 {
     }
 }
 
-// Returns where a file of `len` bytes differs from its durable copy of `durable` bytes.
+// Returns in which bytes a file of `len` bytes differs from its durable copy of `durable` bytes.
 fn find_differing(run: &Run<'_>, object: u32, len: u32, durable: u32) -> Option<Differing> {
     let mut found = None;
     for at in 0..len.max(durable) {
@@ -68,5 +69,26 @@ pub(crate) fn not_durable(alloc: Global, run: &Run<'_>, object: u32) -> Result<S
     let size = Counted::bytes(u64::from(len));
     format!(in alloc;
         "File {name} differs from its durable copy in {differing}, the first at {first}, the last at {last}. The file has {size}, its durable copy {durable}. Only an FSYNC that completes after a WRITE makes its bytes durable {SYNC_RULE}."
+    )
+}
+
+/// Returns the sentence of an FSYNC that completed without error after one had failed.
+pub(crate) fn fsync_retried(
+    alloc: Global,
+    run: &Run<'_>,
+    about: &About,
+) -> Result<String, AllocError> {
+    let Some(retried) = run.retried_at(about.moment) else {
+        return Ok(String::new(alloc));
+    };
+    let Some(failed) = run.name(retried.row) else {
+        return Ok(String::new(alloc));
+    };
+    let name = about.name();
+    let event = retried.event;
+    let bytes = Counted::bytes(u64::from(retried.bytes));
+    let object = if retried.bytes == 1 { "it" } else { "them" };
+    format!(in alloc;
+        "Row {name} completed with 0 after row {failed} had failed with -5 (EIO) at event {event}, and nothing wrote its {bytes} again. A kernel may have dropped {object} {SYNC_RULE}."
     )
 }

@@ -1,4 +1,5 @@
-//! Sentences about requests that completed with an error, or short.
+//! Sentences about requests that completed with an error, moved fewer bytes than requested, or have
+//! fields without effect.
 
 use crate::about::About;
 use crate::names::ResultName;
@@ -12,7 +13,7 @@ use machine::Event;
 use opcodes::{Choice, Op};
 use std::alloc::{AllocError, Global};
 
-/// Where the class of an `ioprio` begins; its level is in the lowest bits (ioprio_set(2)).
+/// The lowest bit of the class of an `ioprio`. Its level is in the lowest bits (ioprio_set(2)).
 const CLASS_SHIFT: u32 = 13;
 
 const LEVEL_MASK: u16 = 7;
@@ -33,7 +34,7 @@ fn word_of_end(res: i32) -> &'static str {
     "it could not be carried out"
 }
 
-// Returns why a request failed once it was issued.
+// Returns why a request failed after it was issued, or as it was issued.
 fn reason_of_end(
     alloc: Global,
     run: &Run<'_>,
@@ -57,7 +58,7 @@ fn reason(alloc: Global, run: &Run<'_>, about: &About, res: i32) -> Result<Strin
     }
 }
 
-// Returns at which stage it completed.
+// Returns at which stage the event at a moment completed a request.
 fn stage(run: &Run<'_>, moment: u32) -> &'static str {
     match run.event(moment) {
         Some(Event::Step(_) | Event::Take(_)) => " as it was submitted",
@@ -89,7 +90,7 @@ pub(crate) fn failed(alloc: Global, run: &Run<'_>, about: &About) -> Result<Stri
     format!(in alloc; "Row {name} completed with {result}{stage}: {reason} {ERROR_RULE}.")
 }
 
-/// Returns why a transfer moved fewer bytes than requested.
+/// Returns why a READ or WRITE moved fewer bytes than requested.
 pub(crate) fn reason_of_short(run: &Run<'_>, about: &About) -> &'static str {
     match run.event(about.moment) {
         Some(Event::Finish(_, Choice::Short(_))) => "the schedule makes it short",
@@ -103,7 +104,7 @@ pub(crate) fn reason_of_short(run: &Run<'_>, about: &About) -> &'static str {
     }
 }
 
-// Returns the fields that have no effect, with their values.
+// Returns the fields of an entry that have no effect, with their values.
 fn idle_fields(entry: &Sqe) -> [(&'static str, i64); 4] {
     [
         ("ioprio", i64::from(entry.ioprio)),
@@ -145,7 +146,7 @@ fn is_invalid_to_kernel(entry: &Sqe) -> bool {
     }
 }
 
-/// Fields that have no effect.
+/// Returns the sentence of an entry that sets fields without effect.
 pub(crate) fn no_effect(alloc: Global, about: &About) -> Result<String, AllocError> {
     let name = about.name();
     let (fields, are_several) = named_fields(alloc, &about.row.entry)?;

@@ -1,12 +1,13 @@
 //! Sentences about requests that haven't completed at the end.
 
 use crate::counted::Counted;
+use crate::cut_off::cut_off;
 use crate::names::RowName;
 use crate::rules::{LINK_RULE, LINK_TIMEOUT_RULE, TIMEOUT_RULE};
 use crate::run::Run;
 use crate::waiting::waits;
 use entries::{IOSQE_IO_DRAIN, Phase, Row};
-use finding_kinds::{History, MOST_ROWS};
+use finding_kinds::{History, MOST_ROWS, Verdict};
 use links_drains::{is_guard, is_unfinished};
 use machine::{Event, Refusal, Setup, State};
 use opcodes::{Choice, is_timer};
@@ -15,15 +16,15 @@ use std::alloc::{AllocError, Global};
 
 const DRAIN_RULE: &str = "(io_uring_enter(2), IOSQE_IO_DRAIN)";
 
-// Returns whether a row is incomplete, no linked timeout, and before another in its chain.
-fn is_before_in_chain(run: &Run<'_>, number: u32, unit: u32) -> bool {
+// Returns whether a row belongs to this chain, is incomplete, and is no linked timeout.
+fn is_incomplete_in(run: &Run<'_>, number: u32, unit: u32) -> bool {
     match run.row(number) {
         Some(row) => row.unit == unit && is_unfinished(&row) && !is_guard(&row),
         None => false,
     }
 }
 
-// Whether some row of a chain has IO_DRAIN, one that has ended too.
+// Returns whether some row of a chain has IO_DRAIN. Completed rows count, too.
 fn drains(run: &Run<'_>, unit: u32) -> bool {
     for number in unit..MOST_ROWS {
         match run.row(number) {
@@ -38,8 +39,8 @@ fn drains(run: &Run<'_>, unit: u32) -> bool {
     false
 }
 
-// Whether a row of a number is unfinished, and of an earlier chain, and one of the two chains
-// drains.
+// Returns whether a row is incomplete and belongs to an earlier chain than `unit`, and one of the
+// two chains drains. `own` says whether the later one does.
 fn is_before_drain(run: &Run<'_>, number: u32, unit: u32, own: bool) -> bool {
     match run.row(number) {
         Some(row) => row.unit < unit && is_unfinished(&row) && (own || drains(run, row.unit)),
@@ -47,15 +48,15 @@ fn is_before_drain(run: &Run<'_>, number: u32, unit: u32, own: bool) -> bool {
     }
 }
 
-// The row of its chain that a row waits for, if it does for one.
-fn held_by_link(run: &Run<'_>, number: u32, row: &Row) -> Option<u32> {
+// Returns the first incomplete row before a row in its chain.
+fn first_in_chain(run: &Run<'_>, number: u32, row: &Row) -> Option<u32> {
     let mut from = row.unit;
     for _row in row.unit..number {
         let before = run.state.next_unfinished(from)?;
         if before >= number {
             return None;
         }
-        if is_before_in_chain(run, before, row.unit) {
+        if is_incomplete_in(run, before, row.unit) {
             return Some(before);
         }
         from = before.saturating_add(1);
@@ -63,8 +64,8 @@ fn held_by_link(run: &Run<'_>, number: u32, row: &Row) -> Option<u32> {
     None
 }
 
-// The first row that a drain has it wait for.
-fn held_by_drain(run: &Run<'_>, row: &Row) -> Option<u32> {
+// Returns the first row that a row waits for because of a drain.
+fn first_before_drain(run: &Run<'_>, row: &Row) -> Option<u32> {
     let own = drains(run, row.unit);
     let mut from = 0;
     for _row in 0..row.unit {
@@ -80,11 +81,11 @@ fn held_by_drain(run: &Run<'_>, row: &Row) -> Option<u32> {
     None
 }
 
-// Which row holds a queued one back, and by what rule.
-fn held_back(alloc: Global, run: &Run<'_>, number: u32, row: &Row) -> Result<String, AllocError> {
-    let (by, rule) = match held_by_link(run, number, row) {
+// Returns which row a queued row waits for, and by which rule.
+fn waits_for(alloc: Global, run: &Run<'_>, number: u32, row: &Row) -> Result<String, AllocError> {
+    let (by, rule) = match first_in_chain(run, number, row) {
         Some(by) => (Some(by), LINK_RULE),
-        None => (held_by_drain(run, row), DRAIN_RULE),
+        None => (first_before_drain(run, row), DRAIN_RULE),
     };
     let name = match by {
         Some(by) => run.name(by),
@@ -100,7 +101,7 @@ fn held_back(alloc: Global, run: &Run<'_>, number: u32, row: &Row) -> Result<Str
     }
 }
 
-// A queued LINK_TIMEOUT.
+// Returns why a queued LINK_TIMEOUT hasn't completed.
 fn queued_guard(alloc: Global, run: &Run<'_>, row: &Row) -> Result<String, AllocError> {
     match run.name(row.target.unwrap_or(0)) {
         Some(name) => {
@@ -112,15 +113,21 @@ fn queued_guard(alloc: Global, run: &Run<'_>, row: &Row) -> Result<String, Alloc
     }
 }
 
-fn queued(alloc: Global, run: &Run<'_>, number: u32, row: &Row) -> Result<String, AllocError> {
+fn queued(
+    alloc: Global,
+    run: &Run<'_>,
+    number: u32,
+    row: &Row,
+    refusal: Option<Refusal>,
+) -> Result<String, AllocError> {
     if is_guard(row) {
         return queued_guard(alloc, run, row);
     }
-    match run.state.refuses(Event::Issue(number)) {
-        Some(_) => held_back(alloc, run, number, row),
+    match refusal {
+        Some(_) => waits_for(alloc, run, number, row),
         None => String::from_str(
             alloc,
-            "It is queued and could be issued: the schedule ends before that.",
+            "It is queued and could be issued: the run just ends before that.",
         ),
     }
 }
@@ -139,54 +146,95 @@ fn lacking(alloc: Global, run: &Run<'_>, row: &Row) -> Result<String, AllocError
     format!(in alloc; "; it would also complete after {needed} ({missing} still missing)")
 }
 
-fn timer(alloc: Global, run: &Run<'_>, number: u32, row: &Row) -> Result<String, AllocError> {
+fn timer(
+    alloc: Global,
+    run: &Run<'_>,
+    row: &Row,
+    refusal: Option<Refusal>,
+) -> Result<String, AllocError> {
     let rule = if is_guard(row) {
         LINK_TIMEOUT_RULE
     } else {
         TIMEOUT_RULE
     };
     let lacking = lacking(alloc, run, row)?;
-    match run.state.refuses(Event::Expire(number)) {
+    match refusal {
         Some(_) => format!(in alloc; "It is issued, and its time is not up{lacking} {rule}."),
         None => String::from_str(
             alloc,
-            "It is issued and due: the schedule ends before it expires.",
+            "It is issued and due: the run just ends before it expires.",
         ),
     }
 }
 
-fn issued(alloc: Global, run: &Run<'_>, number: u32, row: &Row) -> Result<String, AllocError> {
+fn issued(
+    alloc: Global,
+    run: &Run<'_>,
+    row: &Row,
+    refusal: Option<Refusal>,
+) -> Result<String, AllocError> {
     if is_timer(row.entry.opcode) {
-        return timer(alloc, run, number, row);
+        return timer(alloc, run, row, refusal);
     }
-    match run.state.refuses(Event::Finish(number, Choice::Full)) {
+    match refusal {
         Some(Refusal::NotReady) => waits(alloc, run, row),
         _ => String::from_str(
             alloc,
-            "It is issued and could complete: the schedule ends before that.",
+            "It is issued and could complete: the run just ends before that.",
         ),
     }
 }
 
-// Returns why a row hasn't completed.
-fn reason(alloc: Global, run: &Run<'_>, number: u32, row: &Row) -> Result<String, AllocError> {
+// Returns the event by which a row is issued or completes next.
+fn next_event(number: u32, row: &Row) -> Event {
     match row.phase {
-        Phase::Queued => queued(alloc, run, number, row),
-        Phase::Issued | Phase::Ended(_) => issued(alloc, run, number, row),
+        Phase::Queued => Event::Issue(number),
+        Phase::Issued | Phase::Ended(_) => {
+            if is_timer(row.entry.opcode) {
+                Event::Expire(number)
+            } else {
+                Event::Finish(number, Choice::Full)
+            }
+        }
+    }
+}
+
+// Returns why a row hasn't completed. `refusal` is that of its next event, if that is refused.
+fn reason(
+    alloc: Global,
+    run: &Run<'_>,
+    number: u32,
+    row: &Row,
+    refusal: Option<Refusal>,
+) -> Result<String, AllocError> {
+    match row.phase {
+        Phase::Queued => queued(alloc, run, number, row, refusal),
+        Phase::Issued | Phase::Ended(_) => issued(alloc, run, row, refusal),
     }
 }
 
 /// Returns the sentence of a request that hasn't completed.
-pub(crate) fn unfinished(alloc: Global, run: &Run<'_>, number: u32) -> Result<String, AllocError> {
+pub(crate) fn unfinished(
+    alloc: Global,
+    run: &Run<'_>,
+    verdict: Verdict,
+    number: u32,
+) -> Result<String, AllocError> {
     let Some(row) = run.row(number) else {
         return Ok(String::new(alloc));
     };
     let name = RowName::new(number, &row);
-    let reason = reason(alloc, run, number, &row)?;
-    format!(in alloc; "Row {name} has not completed. {reason}")
+    let refusal = run.state.refuses(next_event(number, &row));
+    let reason = reason(alloc, run, number, &row, refusal)?;
+    let end = match refusal {
+        Some(_) => cut_off(verdict),
+        None => "",
+    };
+    format!(in alloc; "Row {name} has not completed. {reason}{end}")
 }
 
-/// Returns why a row of a state hasn't completed, as a sentence: which row it waits for, or what.
+/// Returns the sentence that says why a row of a state hasn't completed: for which row or for what
+/// it waits.
 pub fn why_unfinished(
     alloc: Global,
     setup: &Setup,
@@ -202,7 +250,10 @@ pub fn why_unfinished(
         found: &[],
     };
     match run.row(number) {
-        Some(row) => reason(alloc, &run, number, &row),
+        Some(row) => {
+            let refusal = state.refuses(next_event(number, &row));
+            reason(alloc, &run, number, &row, refusal)
+        }
         None => Ok(String::new(alloc)),
     }
 }

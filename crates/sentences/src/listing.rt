@@ -1,12 +1,12 @@
-//! Rows that a sentence lists.
+//! Lists of rows in sentences.
 
 use crate::run::Run;
 use std::alloc::{AllocError, Global};
 
-/// How many rows are named one by one.
+/// How many rows a list names.
 const NAMED: u32 = 8;
 
-/// The first rows by their names, and how many there are.
+/// A list under construction: the names of its first rows, and how many rows it has.
 #[derive(Drop)]
 pub(super) struct Listing {
     text: String,
@@ -21,7 +21,7 @@ impl Listing {
         }
     }
 
-    /// Adds a row, after a comma if it isn't the first.
+    /// Adds a row.
     pub fn add(&mut self, alloc: Global, run: &Run<'_>, number: u32) -> Result<(), AllocError> {
         self.count = self.count.saturating_add(1);
         if self.count > NAMED {
@@ -37,7 +37,7 @@ impl Listing {
             .push_str(format!(in alloc; "row {name}")?.as_str())
     }
 
-    /// Returns the list, and how many more rows there are than it names.
+    /// Returns the names, separated by commas, and how many more rows there are.
     pub fn finish(self, alloc: Global) -> Result<String, AllocError> {
         let Listing { mut text, count } = self;
         if count > NAMED {

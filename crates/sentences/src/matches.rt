@@ -1,4 +1,5 @@
-//! Sentences about cancels that matched several requests, and requests that look alike.
+//! Sentences about cancels that matched several requests, and about requests with the same
+//! user_data.
 
 use crate::about::About;
 use crate::cancels::{next_found, rule_of};
@@ -13,7 +14,7 @@ const ALL_RULE: &str = "(io_uring_prep_cancel(3), IORING_ASYNC_CANCEL_ALL)";
 
 const USER_RULE: &str = "(io_uring_enter(2), user_data)";
 
-// Returns how many rows a cancel found as it completed.
+// Returns how many rows a cancel matched when it completed.
 fn count_found(run: &Run<'_>, about: &About) -> u32 {
     let mut count: u32 = 0;
     let mut from = 0;
@@ -27,7 +28,7 @@ fn count_found(run: &Run<'_>, about: &About) -> u32 {
     count
 }
 
-// Returns how to cancel all of them.
+// Returns how a cancel or removal can act on all that it matches.
 fn advice(opcode: u8) -> &'static str {
     if opcode == Op::AsyncCancel as u8 {
         return "IORING_ASYNC_CANCEL_ALL cancels all of them that wait";
@@ -35,7 +36,7 @@ fn advice(opcode: u8) -> &'static str {
     "Give each its own user_data"
 }
 
-/// A cancel or a removal of one request that matched more.
+/// Returns the sentence of a cancel or removal of one request that matched several.
 pub(crate) fn several(alloc: Global, run: &Run<'_>, about: &About) -> Result<String, AllocError> {
     let name = about.name();
     let result_name = ResultName(about.result(run));
@@ -54,7 +55,7 @@ pub(crate) fn several(alloc: Global, run: &Run<'_>, about: &About) -> Result<Str
     )
 }
 
-/// A cancel of all that left requests which were running.
+/// Returns the sentence of a cancel of all that left running requests.
 pub(crate) fn left_running(
     alloc: Global,
     run: &Run<'_>,
@@ -68,7 +69,7 @@ pub(crate) fn left_running(
     )
 }
 
-// Lists the rows that a cancel found but did not cancel.
+// Lists the rows that a cancel matched but did not cancel.
 fn left_rows(alloc: Global, run: &Run<'_>, about: &About) -> Result<String, AllocError> {
     let mut rows = Listing::new(alloc);
     let mut from = 0;
@@ -95,7 +96,7 @@ fn is_alike(run: &Run<'_>, number: u32, moment: u32, user_data: u64) -> bool {
     }
 }
 
-// The last earlier row that looks like one.
+// Returns the last earlier row that is incomplete and has the same user_data.
 fn alike(run: &Run<'_>, about: &About) -> Option<u32> {
     for back in 0..about.number.min(LOOKED_BACK) {
         let number = about.number - 1 - back;

@@ -4,7 +4,7 @@ use crate::opcode_names::OpcodeName;
 use entries::Row;
 use std::fmt;
 
-/// A row by its number, its operation and its user_data.
+/// The name of a row: its number, its operation and its user_data.
 #[derive(Clone, Copy)]
 pub struct RowName {
     number: u32,
@@ -13,7 +13,7 @@ pub struct RowName {
 }
 
 impl RowName {
-    /// The name of a row of a number.
+    /// Returns the name of a row with this number.
     pub fn new(number: u32, row: &Row) -> RowName {
         RowName {
             number,
@@ -35,7 +35,7 @@ impl fmt::Display for RowName {
     }
 }
 
-/// A result, and the name of an error (errno(3)).
+/// A result, with its name if it is an error (errno(3)).
 #[derive(Clone, Copy)]
 pub struct ResultName(pub i32);
 

@@ -8,16 +8,16 @@ use opcodes::{Op, fits_end};
 use places::{Contents, Descriptor, End};
 use std::alloc::{AllocError, Global};
 
-/// The fewest bytes that a READ or a WRITE of an eventfd has (eventfd(2)).
+/// The fewest bytes that a READ or WRITE of an eventfd may request (eventfd(2)).
 const EVENT_BYTES: u32 = 8;
 
-/// A descriptor of the setup by its number.
+/// Returns a descriptor of the setup by its number.
 pub(super) fn descriptor_at(setup: &Setup, fd: i32) -> Option<Descriptor> {
     let index = descriptor_number(fd)?.checked_sub(FIRST_DESCRIPTOR)?;
     setup.fds.as_slice().get(index as usize).copied()
 }
 
-// What keeps a request from an end, which is of another use, or was closed.
+// Returns why an end can't be used: it doesn't fit the request, or its descriptor is closed.
 fn word_of_end(fits: bool, end: End) -> &'static str {
     match end {
         End::Read if !fits => "is the read end of a pipe, which can't be written",
@@ -26,7 +26,7 @@ fn word_of_end(fits: bool, end: End) -> &'static str {
     }
 }
 
-/// Why the descriptor of an entry can't be used.
+/// Returns why the descriptor of an entry can't be used.
 pub(super) fn reason_of_descriptor(
     alloc: Global,
     run: &Run<'_>,
@@ -48,7 +48,7 @@ fn kind_of(contents: &Contents) -> &'static str {
     }
 }
 
-// Why an object of these contents refuses an entry.
+// Returns why an object with these contents refuses an entry.
 fn reason_of_contents(
     alloc: Global,
     entry: &Sqe,
@@ -74,7 +74,7 @@ fn reason_of_contents(
     }
 }
 
-/// Why the object of an entry's descriptor refuses it.
+/// Returns why the object of an entry's descriptor refuses the entry.
 pub(super) fn reason_of_object(
     alloc: Global,
     run: &Run<'_>,

@@ -1,4 +1,4 @@
-//! The kernel's names of opcodes, also of those that are not modelled.
+//! The kernel's names of opcodes, including those that are not modelled.
 
 use opcodes::Op;
 use std::fmt;
@@ -87,7 +87,7 @@ pub fn opcode_of_name(name: &str) -> Option<u8> {
     None
 }
 
-/// The name of an opcode; its number where it has none.
+/// An opcode, which prints as its name, or as its number if it has none.
 #[derive(Clone, Copy)]
 pub(crate) struct OpcodeName(pub u8);
 
@@ -106,7 +106,7 @@ pub fn is_modelled(opcode: u8) -> bool {
     Op::from_opcode(opcode).is_some()
 }
 
-/// The clause that says what becomes of an opcode that isn't modelled.
+/// An opcode that isn't modelled, which prints as the clause that says so.
 #[derive(Clone, Copy)]
 pub struct Unmodelled(pub u8);
 

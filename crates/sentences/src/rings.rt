@@ -1,9 +1,10 @@
 //! Sentences about rings, the threads that use them, and the poller.
 
 use crate::counted::Counted;
+use crate::cut_off::cut_off;
 use crate::run::Run;
 use entries::{ETIME, IORING_ENTER_GETEVENTS, IORING_ENTER_SQ_WAKEUP, Phase, Row};
-use finding_kinds::{MOST_ROWS, instruction_at};
+use finding_kinds::{MOST_ROWS, Reaped, Verdict, instruction_at};
 use machine::{Event, Instruction};
 use opcodes::Op;
 use places::{Place, Stage, Value};
@@ -17,11 +18,12 @@ const SUBMIT_RULE: &str = "(io_uring_enter(2), to_submit)";
 
 const POLLER_RULE: &str = "(io_uring_setup(2), IORING_SETUP_SQPOLL)";
 
-/// How a kernel differs: here a wait ends with as many completions as the enter asked for.
+/// What a kernel does otherwise: here a wait lasts until the enter has as many completions as it
+/// requires.
 const TIMEOUT_RETURNS: &str =
     " A kernel returns from this enter once a TIMEOUT completes (io_uring_enter(2)).";
 
-// How many wait between a head and a tail, which are free-running words of 32 bits.
+// Returns how many elements are between a head and a tail, which are free-running 32-bit words.
 fn waiting(run: &Run<'_>, head: Place, tail: Place) -> u64 {
     run.number(tail).wrapping_sub(run.number(head)) & 0xffff_ffff
 }
@@ -83,7 +85,7 @@ pub(crate) fn refused_flags(
     )
 }
 
-// Returns how many rows the event at a moment submitted, and whether one of them failed by it.
+// Returns how many rows the event at a moment submitted, and whether it completed one of them.
 fn queued_at(run: &Run<'_>, moment: u32) -> (usize, bool) {
     let queued = run
         .history
@@ -96,7 +98,7 @@ fn queued_at(run: &Run<'_>, moment: u32) -> (usize, bool) {
     (queued, failed)
 }
 
-// Adds to a reason, which may be empty, how many indexes were dropped.
+// Returns a reason, which may be empty, and how many indexes were dropped.
 fn with_dropped(alloc: Global, reason: &str, dropped: u32) -> Result<String, AllocError> {
     if dropped == 0 {
         return String::from_str(alloc, reason);
@@ -155,7 +157,7 @@ pub(crate) fn no_such_slot(
     )
 }
 
-// Returns what an Enter requested, where the ring can't hold as many completions.
+// Returns the `min_complete` of an Enter, if it is above what the ring can hold.
 fn beyond_ring(
     alloc: Global,
     run: &Run<'_>,
@@ -171,7 +173,7 @@ fn beyond_ring(
     }
 }
 
-// Returns whether a row is a TIMEOUT that expired, or whose count was met.
+// Returns whether a row is a TIMEOUT that expired, or that reached its count.
 fn is_completed_timeout(row: &Row) -> bool {
     let completed = match row.phase {
         Phase::Ended(res) => res == 0 || res == -ETIME,
@@ -180,7 +182,7 @@ fn is_completed_timeout(row: &Row) -> bool {
     row.entry.opcode == Op::Timeout as u8 && completed
 }
 
-// Returns whether such a TIMEOUT completed by the event at a moment, or by a later one.
+// Returns whether a TIMEOUT expired, or reached its count, by the event at a moment or a later one.
 fn has_completed_timeout(run: &Run<'_>, since: u32) -> bool {
     for number in 0..run.history.rows.len().min(MOST_ROWS as usize) as u32 {
         let completed = match run.row(number) {
@@ -194,24 +196,64 @@ fn has_completed_timeout(run: &Run<'_>, since: u32) -> bool {
     false
 }
 
+/// How many reaps the sentence of a waiting thread names.
+const NAMED_REAPS: usize = 3;
+
+// Returns which completions the other threads reaped from a moment on: a sentence for each of the
+// first few.
+fn reaped_since(alloc: Global, run: &Run<'_>, since: u32) -> Result<String, AllocError> {
+    let mut text = String::new(alloc);
+    let reaps = &run.history.reaps;
+    let first = reaps.partition_point(|reap| reap.moment < since);
+    for index in first..first.saturating_add(NAMED_REAPS) {
+        if let Some(
+            Reaped {
+                moment,
+                thread,
+                user_data,
+            },
+        ) = reaps.get(index)
+        {
+            let reaped = format!(in alloc;
+                " Thread {thread} reaped user_data {user_data} at event {moment}."
+            )?;
+            text.push_str(reaped.as_str())?;
+        }
+    }
+    Ok(text)
+}
+
+// Returns how many completions a waiting thread requires.
+fn requested_by(run: &Run<'_>, thread: u32) -> u32 {
+    match run.state.value(Place::ThreadStage(thread)) {
+        Some(Value::Staged(Stage::Waiting(_, requested))) => requested,
+        _ => 0,
+    }
+}
+
+// Returns what the sentence of a waiting thread says of the rest of the run: within it, and at its
+// end.
+fn outlook_of(run: &Run<'_>, verdict: Verdict, thread: u32) -> (&'static str, &'static str) {
+    match run.state.refuses(Event::Step(thread)) {
+        Some(_) => ("", cut_off(verdict)),
+        None => (". It could continue: the run just ends before that", ""),
+    }
+}
+
 /// Returns the sentence of a thread that waits from a moment to the end.
 pub(crate) fn waits(
     alloc: Global,
     run: &Run<'_>,
+    verdict: Verdict,
     thread: u32,
     since: u32,
 ) -> Result<String, AllocError> {
     let counter = run.number(Place::ProgramCounter(thread));
     let ready = completions(run);
-    let requested = match run.state.value(Place::ThreadStage(thread)) {
-        Some(Value::Staged(Stage::Waiting(_, requested))) => requested,
-        _ => 0,
-    };
+    let requested = requested_by(run, thread);
     let beyond = beyond_ring(alloc, run, thread, counter, requested)?;
-    let outlook = match run.state.refuses(Event::Step(thread)) {
-        Some(_) => "",
-        None => ". It could continue: the schedule ends before that",
-    };
+    let (outlook, end) = outlook_of(run, verdict, thread);
+    let reaped = reaped_since(alloc, run, since)?;
     let returns = if has_completed_timeout(run, since) {
         TIMEOUT_RETURNS
     } else {
@@ -219,7 +261,22 @@ pub(crate) fn waits(
     };
     let requested = Counted::completions(u64::from(requested));
     format!(in alloc;
-        "Thread {thread} waits in its enter, instruction {counter}, to the end of the run. It waits for {requested}{beyond}, and the ring has {ready}{outlook} {WAIT_RULE}.{returns}"
+        "Thread {thread} waits in its enter, instruction {counter}, to the end of the run. It waits for {requested}{beyond}, and the ring has {ready}{outlook} {WAIT_RULE}.{reaped}{returns}{end}"
+    )
+}
+
+/// Returns the sentence of a thread whose next step is refused to the end, because of a ring that
+/// nothing will fill or empty.
+pub(crate) fn stuck(alloc: Global, run: &Run<'_>, thread: u32) -> Result<String, AllocError> {
+    let counter = run.number(Place::ProgramCounter(thread));
+    let next = instruction_at(run.setup, Event::Step(thread), Some(counter));
+    if let Some(Instruction::Push(_)) = next {
+        return format!(in alloc;
+            "Thread {thread} can never go on: its push, instruction {counter}, finds the submission ring full, and nothing is left that would take its entries (io_uring(7))."
+        );
+    }
+    format!(in alloc;
+        "Thread {thread} can never go on: its reap, instruction {counter}, finds the completion ring empty, and no request is left that could complete (io_uring(7))."
     )
 }
 
@@ -232,15 +289,20 @@ pub(crate) fn lost_wake_up(alloc: Global, run: &Run<'_>) -> Result<String, Alloc
 }
 
 /// Returns the sentence of entries that were never submitted.
-pub(crate) fn not_taken(alloc: Global, run: &Run<'_>) -> Result<String, AllocError> {
+pub(crate) fn not_taken(
+    alloc: Global,
+    run: &Run<'_>,
+    verdict: Verdict,
+) -> Result<String, AllocError> {
     let entries = Counted::entries(entries(run));
+    let end = cut_off(verdict);
     let rule = if run.state.value(Place::PollerStage).is_some() {
         POLLER_RULE
     } else {
         SUBMIT_RULE
     };
     format!(in alloc;
-        "At the end of the run the submission ring has {entries}, never submitted {rule}."
+        "At the end of the run the submission ring has {entries}, never submitted {rule}.{end}"
     )
 }
 
@@ -253,12 +315,12 @@ pub(crate) fn not_reaped(alloc: Global, run: &Run<'_>) -> Result<String, AllocEr
         );
     }
     let completions = Counted::completions(completions);
-    let kept = if is_overflowing(run) {
+    let more = if is_overflowing(run) {
         "; the backlog has more"
     } else {
         ""
     };
     format!(in alloc;
-        "At the end of the run the completion ring has {completions}, never reaped{kept} (io_uring(7))."
+        "At the end of the run the completion ring has {completions}, never reaped{more} (io_uring(7))."
     )
 }

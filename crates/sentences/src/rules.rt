@@ -1,13 +1,13 @@
-//! Rules that several sentences cite.
+//! Manual pages that several sentences cite.
 
-/// Of a soft link.
+/// The page on soft links.
 pub(crate) const LINK_RULE: &str = "(io_uring_enter(2), IOSQE_IO_LINK)";
 
-/// Of what completes with an error.
+/// The page on requests that complete with an error.
 pub(crate) const ERROR_RULE: &str = "(io_uring_enter(2), CQE ERRORS)";
 
-/// Of a TIMEOUT.
+/// The page on TIMEOUTs.
 pub(crate) const TIMEOUT_RULE: &str = "(io_uring_enter(2), IORING_OP_TIMEOUT)";
 
-/// Of a LINK_TIMEOUT.
+/// The page on LINK_TIMEOUTs.
 pub(crate) const LINK_TIMEOUT_RULE: &str = "(io_uring_enter(2), IORING_OP_LINK_TIMEOUT)";

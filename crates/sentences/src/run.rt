@@ -1,29 +1,40 @@
-//! A run that has ended, as sentences see it.
+//! A complete run with its findings, and look-ups in its history.
 
 use crate::names::RowName;
-use entries::{Phase, Row};
-use finding_kinds::{EndedKind, Finding, History, Kind, Times, instruction_at};
+use entries::{ECANCELED, Phase, Row};
+use finding_kinds::{
+    EndedKind, Finding, History, Kind, Retried, Times, descriptor_number, instruction_at,
+};
 use machine::{Event, Instruction, Setup, State};
 use places::{Place, Value};
 
-/// A run, with what it shows.
+/// A run, with its history and its findings.
 #[derive(Clone, Copy)]
 pub struct Run<'a> {
     pub setup: &'a Setup,
-    /// Its end.
+    /// The state at the end.
     pub state: &'a State,
     pub events: &'a [Event],
     pub history: &'a History,
+    /// In order: by moment, then by kind, then by subject.
     pub found: &'a [Finding],
 }
 
+/// A step of a thread: the thread, and the index of the instruction that it executed.
+#[derive(Clone, Copy)]
+pub struct ThreadStep {
+    pub thread: u32,
+    pub instruction: u32,
+}
+
 impl Run<'_> {
-    /// A row as it is at the end, if it is there.
+    /// Returns a row as it is at the end, if there is one with this number.
     pub(crate) fn row(&self, number: u32) -> Option<Row> {
         self.state.row(number)
     }
 
-    /// A ring word, a counter or a flag word at the end, or 0.
+    /// Returns the number in a place at the end: a ring word, a counter or a flag word. Returns 0
+    /// if the place holds no number.
     pub(crate) fn number(&self, place: Place) -> u64 {
         match self.state.value(place) {
             Some(Value::Number(number)) => number,
@@ -52,7 +63,8 @@ impl Run<'_> {
         self.events.get(moment as usize).copied()
     }
 
-    /// Returns which instruction the event at a moment executed, if it was a step of a thread.
+    /// Returns the index of the instruction that the event at a moment executed, if it was a step
+    /// of a thread.
     pub(crate) fn counter(&self, moment: u32) -> Option<u32> {
         self.history.counters.get(moment as usize).copied()?
     }
@@ -63,7 +75,57 @@ impl Run<'_> {
         instruction_at(self.setup, self.event(moment)?, Some(u64::from(counter)))
     }
 
-    /// The first slot whose entry names a descriptor that the event at a moment closed.
+    /// Returns the step of a thread that the event at a moment was, if it was one.
+    pub(crate) fn thread_step(&self, moment: u32) -> Option<ThreadStep> {
+        match self.event(moment)? {
+            Event::Step(thread) => Some(ThreadStep {
+                thread,
+                instruction: self.counter(moment)?,
+            }),
+            _ => None,
+        }
+    }
+
+    /// Returns the moment of the last put into a slot before another moment.
+    pub(crate) fn last_put(&self, slot: u32, moment: u32) -> Option<u32> {
+        let puts = self.history.puts.get(slot as usize)?;
+        let count = puts.partition_point(|put| *put < moment);
+        puts.get(count.checked_sub(1)?).copied()
+    }
+
+    /// Returns the put that wrote the entry of a row. None if no thread put an entry into the slot
+    /// from which the row was submitted.
+    pub fn put_of(&self, number: u32) -> Option<ThreadStep> {
+        let slot = self.history.origins.get(number as usize).copied()?;
+        let queued = self.times_of(number)?.queued;
+        self.thread_step(self.last_put(slot, queued)?)
+    }
+
+    /// Returns the moment before the event that closed a descriptor of the setup.
+    pub(crate) fn close_of(&self, fd: i32) -> Option<u32> {
+        let descriptor = descriptor_number(fd)?;
+        for closed in &self.history.closes {
+            if closed.descriptor == descriptor {
+                return Some(closed.moment);
+            }
+        }
+        None
+    }
+
+    /// Returns what the history says about an FSYNC that completed at a moment, if an earlier one
+    /// of its file had failed.
+    pub(crate) fn retried_at(&self, moment: u32) -> Option<Retried> {
+        let list = &self.history.retried;
+        let index = list.partition_point(|retried| retried.moment < moment);
+        let retried = list.get(index).copied()?;
+        if retried.moment == moment {
+            Some(retried)
+        } else {
+            None
+        }
+    }
+
+    /// Returns the first slot whose entry names a descriptor that the event at a moment closed.
     pub(crate) fn slot(&self, moment: u32) -> Option<u32> {
         let slots = &self.history.slots;
         let met = slots.get(slots.partition_point(|met| met.moment < moment))?;
@@ -81,7 +143,7 @@ impl Run<'_> {
         emptied.get(passed).copied()
     }
 
-    /// How many indexes the event at a moment dropped.
+    /// Returns how many indexes the event at a moment dropped.
     pub(crate) fn dropped_at(&self, moment: u32) -> u32 {
         let dropped = &self.history.dropped;
         let index = dropped.partition_point(|(at, _)| *at < moment);
@@ -91,7 +153,7 @@ impl Run<'_> {
         }
     }
 
-    // sq.dropped before an event that dropped indexes, by its index among those.
+    // Returns sq.dropped before an event that dropped indexes, by its index among those events.
     fn dropped_before(&self, index: usize) -> u32 {
         let count = match index.checked_sub(1) {
             Some(last) => self.history.dropped.get(last),
@@ -119,6 +181,11 @@ impl Run<'_> {
         }
     }
 
+    /// Returns whether a row completed with ECANCELED by the event at a moment.
+    pub(crate) fn is_canceled_at(&self, number: u32, moment: u32) -> bool {
+        self.ends_at(number, moment) && self.result(number) == Some(-ECANCELED)
+    }
+
     fn unit(&self, number: u32) -> Option<u32> {
         Some(self.row(number)?.unit)
     }
@@ -131,59 +198,19 @@ impl Run<'_> {
         }
     }
 
-    /// Returns whether a finding is that another row of a row's chain was canceled at a moment.
-    fn is_cut(&self, finding: &Finding, number: u32, moment: u32) -> bool {
-        finding.moment == moment
-            && finding.kind == Kind::Ended(EndedKind::Canceled)
-            && number != finding.subject
-            && self.are_of_one_chain(number, finding.subject)
-    }
-
-    /// Returns the next row in the list of findings that was canceled with a row's chain at a moment.
-    pub(crate) fn next_cut(&self, from: usize, number: u32, moment: u32) -> Option<usize> {
-        for index in from..self.found.len() {
-            let finding = &self.found[index];
-            if finding.moment != moment {
-                return None;
-            }
-            if self.is_cut(finding, number, moment) {
-                return Some(index);
-            }
-        }
-        None
-    }
-
-    /// Returns the row of another's chain, below a number, with the last finding of a kind at a
-    /// moment, before an index of the list.
-    fn reported_before(
-        &self,
-        index: usize,
-        kind: EndedKind,
-        number: u32,
-        moment: u32,
-        below: u32,
-    ) -> Option<u32> {
+    /// Returns the last row of another's chain that failed at a moment, by the findings before an
+    /// index of their list.
+    pub(crate) fn failing(&self, index: usize, number: u32, moment: u32) -> Option<u32> {
         for finding in self.found[..index.min(self.found.len())].iter().rev() {
             if finding.moment != moment {
                 return None;
             }
-            if finding.kind == Kind::Ended(kind)
-                && finding.subject < below
+            if finding.kind == Kind::Ended(EndedKind::Failed)
                 && self.are_of_one_chain(finding.subject, number)
             {
                 return Some(finding.subject);
             }
         }
         None
-    }
-
-    /// Returns the row before another that broke its chain at a moment. The list has it first.
-    pub(crate) fn severing(&self, index: usize, number: u32, moment: u32) -> Option<u32> {
-        self.reported_before(index, EndedKind::Severed, number, moment, number)
-    }
-
-    /// The row that failed at a moment, and with it the chain of another.
-    pub(crate) fn failing(&self, index: usize, number: u32, moment: u32) -> Option<u32> {
-        self.reported_before(index, EndedKind::Failed, number, moment, u32::MAX)
     }
 }

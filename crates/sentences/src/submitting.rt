@@ -1,4 +1,4 @@
-//! Why an entry failed as it was submitted: its field, and what its opcode takes there.
+//! Why an entry failed as it was submitted: which field, and which values its opcode accepts.
 
 use crate::about::About;
 use crate::opcode_names::{OpcodeName, Unmodelled};
@@ -7,10 +7,10 @@ use entries::{EFAULT, Sqe};
 use opcodes::Op;
 use std::alloc::{AllocError, Global};
 
-/// The flags of an entry that are not modelled.
+/// The flags of entries that are not modelled.
 const LEFT_OUT: [u8; 4] = [1, 32, 64, 128];
 
-/// A field that an opcode refuses.
+/// A field whose value an opcode refuses, and the values that it accepts.
 #[derive(Clone, Copy)]
 struct Refused {
     field: &'static str,
@@ -37,7 +37,7 @@ fn flag_name(flag: u8) -> &'static str {
     }
 }
 
-// Returns the length of an entry, if it isn't the one that is accepted.
+// Returns the `len` of an entry, if it isn't the accepted one.
 fn refused_len(entry: &Sqe, len: u32, taken: &'static str) -> Option<Refused> {
     if entry.len == len {
         return None;
@@ -49,7 +49,7 @@ fn refused_len(entry: &Sqe, len: u32, taken: &'static str) -> Option<Refused> {
     })
 }
 
-// Returns the flags of its operation, if they are above the largest that are accepted.
+// Returns the `opflags` of an entry, if they are above the largest accepted ones.
 fn refused_flags(entry: &Sqe, most: u32, taken: &'static str) -> Option<Refused> {
     if entry.operation_flags <= most {
         return None;
@@ -86,7 +86,7 @@ fn refused_of_poll_remove(entry: &Sqe) -> Option<Refused> {
     }
 }
 
-// The first field that an entry's opcode refuses, in the order of the tests.
+// Returns the first field that the opcode of an entry refuses, in the order of the tests.
 fn refused_field(entry: &Sqe, op: Op) -> Option<Refused> {
     match op {
         Op::Nop => None,
@@ -104,7 +104,7 @@ fn refused_field(entry: &Sqe, op: Op) -> Option<Refused> {
     }
 }
 
-// Whether the row before one of a number is of its chain, and no LINK_TIMEOUT.
+// Returns whether the row before this one is in its chain and no LINK_TIMEOUT.
 fn has_target(run: &Run<'_>, number: u32) -> bool {
     let Some(before) = number.checked_sub(1) else {
         return false;
@@ -117,7 +117,7 @@ fn has_target(run: &Run<'_>, number: u32) -> bool {
     }
 }
 
-// What an entry of an opcode was refused for.
+// Returns why an entry with a modelled opcode was refused.
 fn reason_of_op(
     alloc: Global,
     run: &Run<'_>,

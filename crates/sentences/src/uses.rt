@@ -1,4 +1,4 @@
-//! Sentences about slots that are pushed, and descriptors that requests name or hold.
+//! Sentences about puts into pushed slots, and closes of descriptors that are used or closed.
 
 use crate::listing::Listing;
 use crate::run::Run;
@@ -27,7 +27,7 @@ pub(crate) fn slot_in_use(
     )
 }
 
-/// The phase of a row as its descriptor was closed.
+/// The phase of a row when its descriptor was closed.
 #[derive(Clone, Copy)]
 pub(crate) enum UserPhase {
     Queued,
@@ -35,7 +35,7 @@ pub(crate) enum UserPhase {
 }
 
 impl UserPhase {
-    // What such a row does with its descriptor.
+    // Returns what such a row does with its descriptor.
     fn verb(self) -> &'static str {
         match self {
             UserPhase::Queued => "named",
@@ -43,7 +43,7 @@ impl UserPhase {
         }
     }
 
-    // Returns the consequence.
+    // Returns what follows for such a row.
     fn outcome(self) -> &'static str {
         match self {
             UserPhase::Queued => {
@@ -56,7 +56,7 @@ impl UserPhase {
     }
 }
 
-// Returns whether a row was in this phase before the event at a moment, and uses a descriptor.
+// Returns whether a row was in this phase before the event at a moment, and uses the descriptor.
 fn is_user(
     run: &Run<'_>,
     number: u32,
@@ -73,7 +73,7 @@ fn is_user(
     is_in_phase && uses_descriptor(row.entry.opcode) && row.entry.fd == fd
 }
 
-// Names those rows.
+// Lists the rows that use a descriptor in this phase.
 fn users(
     alloc: Global,
     run: &Run<'_>,
@@ -92,7 +92,7 @@ fn users(
     rows.finish(alloc)
 }
 
-// Adds the slot whose entry names a descriptor to the queued rows that name it.
+// Returns the list of queued rows that name a descriptor, and the slot whose entry names it.
 fn with_slot(alloc: Global, mut rows: String, slot: Option<u32>) -> Result<String, AllocError> {
     if !rows.is_empty() {
         rows.push_str(", still queued")?;
@@ -108,7 +108,7 @@ fn with_slot(alloc: Global, mut rows: String, slot: Option<u32>) -> Result<Strin
     Ok(rows)
 }
 
-// The descriptor that was closed at a moment.
+// Returns the descriptor that the event at a moment closes, or tries to close.
 fn closed_at(run: &Run<'_>, moment: u32) -> i32 {
     match run.instruction(moment) {
         Some(Instruction::Close(fd)) => *fd,
@@ -116,7 +116,7 @@ fn closed_at(run: &Run<'_>, moment: u32) -> i32 {
     }
 }
 
-/// A descriptor that was closed before it was used, or while it was held.
+/// Returns the sentence of a descriptor that was closed while rows in this phase use it.
 pub(crate) fn closed(
     alloc: Global,
     run: &Run<'_>,
@@ -135,5 +135,20 @@ pub(crate) fn closed(
     let outcome = user_phase.outcome();
     format!(in alloc;
         "The close of thread {thread}, instruction {counter}, closed descriptor {fd}, which is {used} by {users}. {outcome} {RULE}."
+    )
+}
+
+/// Returns the sentence of a close of a descriptor that was closed before.
+pub(crate) fn closed_twice(
+    alloc: Global,
+    run: &Run<'_>,
+    thread: u32,
+    moment: u32,
+) -> Result<String, AllocError> {
+    let fd = closed_at(run, moment);
+    let counter = run.counter(moment).unwrap_or(0);
+    let event = run.close_of(fd).unwrap_or(0);
+    format!(in alloc;
+        "Thread {thread} closed descriptor {fd}, instruction {counter}, which event {event} had closed: it was answered -9 (EBADF). In a real program the number may belong to another file by then (close(2))."
     )
 }

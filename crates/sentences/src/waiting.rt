@@ -1,4 +1,4 @@
-//! What an issued request waits for on its descriptor, and which operation could cause it.
+//! What an issued request waits for on its descriptor, and which operations could cause it.
 
 use crate::objects::descriptor_at;
 use crate::run::Run;
@@ -11,7 +11,7 @@ use std::alloc::{AllocError, Global};
 /// The most descriptors of a setup.
 const MOST_DESCRIPTORS: usize = 64;
 
-/// What a request waits for at an object.
+/// What a request waits for.
 #[derive(Clone, Copy)]
 enum Awaited {
     /// Bytes in a pipe.
@@ -22,16 +22,16 @@ enum Awaited {
     HangUp,
     /// A pipe without a reader (POLLERR).
     Error,
-    /// A counter of an eventfd above 0.
+    /// A counter above 0 in an eventfd.
     Counter,
-    /// A counter of an eventfd that a WRITE can add to.
+    /// A counter of an eventfd to which a WRITE can add its number.
     CounterRoom,
-    /// Events that no object of its kind has.
+    /// Events that never occur on the object.
     Nothing,
 }
 
 impl Awaited {
-    // At an end of a pipe.
+    // Returns what an entry waits for at an end of a pipe.
     fn of_pipe(entry: &Sqe, end: End) -> Awaited {
         let polls = entry.opcode == Op::PollAdd as u8;
         match end {
@@ -59,7 +59,7 @@ impl Awaited {
         Awaited::Nothing
     }
 
-    // A file is always ready for a READ and a WRITE.
+    // Returns what an entry waits for at an end of an object. Transfers of a file never wait.
     fn from_entry(entry: &Sqe, end: End, object: &Object) -> Awaited {
         match &object.contents {
             Contents::Pipe(_) => Awaited::of_pipe(entry, end),
@@ -68,7 +68,7 @@ impl Awaited {
         }
     }
 
-    // The words before the object's name.
+    // Returns the words before the object's name.
     fn words(self) -> &'static str {
         match self {
             Awaited::Bytes => "bytes in pipe",
@@ -81,7 +81,7 @@ impl Awaited {
         }
     }
 
-    // Returns what causes it, before the number of a descriptor.
+    // Returns which operation causes it, in words that end before a descriptor number.
     fn source_text(self) -> &'static str {
         match self {
             Awaited::Bytes | Awaited::Counter => "a WRITE to descriptor ",
@@ -98,7 +98,7 @@ impl Awaited {
         }
     }
 
-    // Returns whether an operation on descriptors of an end can cause it.
+    // Returns whether an operation on a descriptor of this end can cause it.
     fn passes_through(self, end: End) -> bool {
         match end {
             End::Whole => matches!(self, Awaited::Counter | Awaited::CounterRoom),
@@ -107,7 +107,7 @@ impl Awaited {
         }
     }
 
-    // The manual page that says so.
+    // Returns the manual page that says so.
     fn rule(self, entry: &Sqe) -> &'static str {
         if entry.opcode == Op::PollAdd as u8 {
             return "(poll(2))";
@@ -126,7 +126,7 @@ fn is_open(run: &Run<'_>, number: u32) -> bool {
     )
 }
 
-// Returns the operations on open descriptors of an object that could cause it.
+// Returns the operations on open descriptors of an object that could cause what is awaited.
 fn providers(
     alloc: Global,
     run: &Run<'_>,
@@ -156,7 +156,7 @@ fn providers(
     Ok(text)
 }
 
-// At a descriptor of an object.
+// Returns what an entry waits for at a descriptor of an object, and what could cause it.
 fn waits_at(
     alloc: Global,
     run: &Run<'_>,
