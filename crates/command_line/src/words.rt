@@ -26,6 +26,9 @@ const DEFAULT_WORKERS: u32 = 2;
 /// The most sessions after which a server ends.
 const MOST_SESSIONS: u32 = 1000000;
 
+/// The place of an option that help lists after all others, as it lists `--help`.
+const LAST: usize = 999;
+
 const BEYOND_TURNS: &str = "invalid value for '--turns <N>': it must be 1 to 1000000";
 
 const BEYOND_WORKERS: &str = "invalid value for '--kernel <Q>': it must be 1 to 8";
@@ -258,6 +261,7 @@ fn version_option<'a>(alloc: Global) -> Arg<'a> {
         .short('V')
         .long("version")
         .help("Print version")
+        .display_order(LAST)
         .action(ArgAction::Version)
 }
 

@@ -26,8 +26,9 @@ enum Ending {
 }
 
 impl Ending {
-    fn from_report(explanation: &Explanation) -> Ending {
-        if explanation.is_faulty {
+    // Returns the result for a report, by whether some finding counts.
+    fn from_report(is_faulty: bool) -> Ending {
+        if is_faulty {
             Ending::Faulty
         } else {
             Ending::Fine
@@ -85,13 +86,25 @@ fn explain_one<R: Files + Input + Print + Eprint + AllocGlobal>(
     run: &str,
     request: Request<'_>,
 ) -> Result<ExitCode, Fault> {
-    let explanation = match explanation_of(rt, run, request) {
-        Ok(explanation) => explanation,
-        Err(failure) => return Ok(failure.print(rt)),
-    };
-    let ending = Ending::from_report(&explanation);
-    write_text(&mut Output::new(rt), Ok(explanation.text))?;
-    Ok(ending.status())
+    match explanation_of(rt, run, request) {
+        Ok(Explanation { text, is_faulty }) => {
+            write_text(&mut Output::new(rt), Ok(text))?;
+            Ok(Ending::from_report(is_faulty).status())
+        }
+        Err(failure) => Ok(failure.print(rt)),
+    }
+}
+
+// Returns the fault of a run among several, with the name of the run.
+fn text_of_failure(
+    alloc: Global,
+    run: &str,
+    failure: &Failure,
+    json: bool,
+) -> Result<String, AllocError> {
+    let fault = &failure.fault;
+    let line = format!(in alloc; "{fault}")?;
+    named_fault(alloc, run, line.as_str(), failure.reason.as_str(), json)
 }
 
 // Returns the report or the fault of a run among several, with the name of the run.
@@ -103,20 +116,11 @@ fn named_text(
     let alloc = rt.alloc();
     match explanation_of(rt, run, request) {
         Ok(explanation) => {
-            let ending = Ending::from_report(&explanation);
             let report = explanation.text.as_str();
-            (named_report(alloc, run, report, request.json), ending)
+            let text = named_report(alloc, run, report, request.json);
+            (text, Ending::from_report(explanation.is_faulty))
         }
-        Err(failure) => {
-            let text = match format!(in alloc; "{}", failure.fault) {
-                Ok(fault) => {
-                    let reason = failure.reason.as_str();
-                    named_fault(alloc, run, fault.as_str(), reason, request.json)
-                }
-                Err(error) => Err(error),
-            };
-            (text, Ending::Failed)
-        }
+        Err(failure) => (text_of_failure(alloc, run, &failure, request.json), Ending::Failed),
     }
 }
 
