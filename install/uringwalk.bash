@@ -4,11 +4,11 @@
 _uringwalk_values() {
     case $1 in
         --form) echo "1 2" ;;
-        --kind)
+        --kind | --allow)
             echo "failed short severed canceled timed-out expired not-found too-late overflow busy waits lost-wake-up" \
                 "not-taken not-reaped unfinished buffer-in-use unordered shared-position fsync-early taken-short" \
                 "no-such-slot cut-off went-on no-effect slot-in-use closed-early closed-while-held several" \
-                "left-running same-user-data not-durable refused-flags"
+                "left-running same-user-data not-durable refused-flags stuck closed-twice fsync-retried"
             ;;
     esac
 }
@@ -18,19 +18,19 @@ _uringwalk_options() {
     case $1 in
         trace) echo "--form" ;;
         log | timeline) echo "--from --to" ;;
-        explain) echo "--kind --json" ;;
+        explain) echo "--kind --allow --json" ;;
         live) echo "--turns --kernel --trace" ;;
         serve) echo "--port --turns --kernel --clients" ;;
     esac
 }
 
-# Prints the files that a word takes, in their order: a script, or any file.
+# Prints the files that a word takes, in their order: a script, or any file. "explain" takes any number of files.
 _uringwalk_operands() {
     case $1 in
         walk | check | live | serve) echo "script" ;;
         trace) echo "script file" ;;
         migrate) echo "script file file" ;;
-        replay | log | explain) echo "file" ;;
+        replay | log) echo "file" ;;
         timeline) echo "file file" ;;
     esac
 }
@@ -53,6 +53,8 @@ _uringwalk_after() {
         [[ $3 -gt 0 ]] || mapfile -t COMPREPLY < <(compgen -W "$_uringwalk_words" -- "$2")
     elif [[ $2 == -* ]]; then
         mapfile -t COMPREPLY < <(compgen -W "$(_uringwalk_options "$1") --help" -- "$2")
+    elif [[ $1 == explain ]]; then
+        _uringwalk_file file "$2"
     else
         read -ra operands <<<"$(_uringwalk_operands "$1")"
         [[ $3 -ge ${#operands[@]} ]] || _uringwalk_file "${operands[$3]}" "$2"
@@ -68,7 +70,7 @@ _uringwalk() {
     for it in "${typed[@]}"; do
         case $it in
             "=") ;;
-            --form | --kind | --from | --to | --turns | --kernel | --port | --clients | --trace) option=$it ;;
+            --form | --kind | --allow | --from | --to | --turns | --kernel | --port | --clients | --trace) option=$it ;;
             -*) option="" ;;
             *)
                 if [[ -n $option ]]; then

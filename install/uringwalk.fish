@@ -32,15 +32,16 @@ complete -c uringwalk -n '__uringwalk_word_is walk check trace migrate live serv
 complete -c uringwalk -n '__uringwalk_word_is replay log explain timeline' -F
 
 # The options of each word.
+set -l kinds failed short severed canceled timed-out expired not-found too-late overflow busy waits lost-wake-up \
+    not-taken not-reaped unfinished buffer-in-use unordered shared-position fsync-early taken-short \
+    no-such-slot cut-off went-on no-effect slot-in-use closed-early closed-while-held several \
+    left-running same-user-data not-durable refused-flags stuck closed-twice fsync-retried
 complete -c uringwalk -n '__uringwalk_word_is trace' -l form -x -a '1 2' -d 'The form of the trace'
 complete -c uringwalk -n '__uringwalk_word_is log timeline' -l from -x -d 'The first event'
 complete -c uringwalk -n '__uringwalk_word_is log timeline' -l to -x -d 'The event after the last'
 complete -c uringwalk -n '__uringwalk_word_is explain' -l json -d 'Print JSON'
-complete -c uringwalk -n '__uringwalk_word_is explain' -l kind -x -d 'Findings of this kind alone' -a '
-    failed short severed canceled timed-out expired not-found too-late overflow busy waits lost-wake-up
-    not-taken not-reaped unfinished buffer-in-use unordered shared-position fsync-early taken-short
-    no-such-slot cut-off went-on no-effect slot-in-use closed-early closed-while-held several
-    left-running same-user-data not-durable refused-flags'
+complete -c uringwalk -n '__uringwalk_word_is explain' -l kind -x -d 'Findings of this kind alone' -a "$kinds"
+complete -c uringwalk -n '__uringwalk_word_is explain' -l allow -x -d 'Faults of this kind don\'t count' -a "$kinds"
 complete -c uringwalk -n '__uringwalk_word_is live serve' -l turns -x -d 'How many turns each thread has'
 complete -c uringwalk -n '__uringwalk_word_is live serve' -l kernel -x -d 'How many kernel workers there are'
 complete -c uringwalk -n '__uringwalk_word_is live' -l trace -r -F -d 'The trace to write'

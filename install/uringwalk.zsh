@@ -25,7 +25,7 @@ _uringwalk() {
     failed short severed canceled timed-out expired not-found too-late overflow busy waits lost-wake-up
     not-taken not-reaped unfinished buffer-in-use unordered shared-position fsync-early taken-short
     no-such-slot cut-off went-on no-effect slot-in-use closed-early closed-while-held several
-    left-running same-user-data not-durable refused-flags
+    left-running same-user-data not-durable refused-flags stuck closed-twice fsync-retried
   )
   local -a usage=('(- *)'{-h,--help}'[print the usage]')
   local script='_files -g "*.json(-.)"'
@@ -54,7 +54,9 @@ _uringwalk() {
     log) _arguments $usage "$from" "$to" '1:script or trace:_files' ;;
     explain)
       _arguments $usage \
-        "--kind=[findings of this kind alone]:kind:($kinds)" '--json[print JSON]' '1:script or trace:_files'
+        "*--kind=[findings of this kind alone]:kind:($kinds)" \
+        "*--allow=[faults of this kind don't count for the status]:kind:($kinds)" \
+        '--json[print JSON]' '*:script or trace:_files'
       ;;
     timeline)
       _arguments $usage "$from" "$to" \

@@ -1,15 +1,15 @@
--- What the words ask for.
+-- The jobs that a command line describes.
 use Rattle.std.specs.Prelude.{◌≡◌, ◌≤◌, ℕ, Option, Some, None}
 use Rattle.command_line.specs.declared.task.Job.{Job}
 use Rattle.command_line.specs.declared.task.Job.TheVariants.{Walk, Replay, Log, Check, Explain, Timeline, Live, Serve, Trace, Migrate}
 
--- a trace is asked for under its script's name
+-- A trace would be written to the path of its script.
 abbrev pub LosesScript : Job → Type 0
 LosesScript (Walk script) = ⊥
 LosesScript (Replay trace) = ⊥
 LosesScript (Log run from to) = ⊥
 LosesScript (Check script) = ⊥
-LosesScript (Explain run kind json) = ⊥
+LosesScript (Explain runs kinds allowed json) = ⊥
 LosesScript (Timeline run out from to) = ⊥
 LosesScript (Live script turns kernel None) = ⊥
 LosesScript (Live script turns kernel (Some out)) = out.now ≡ script.now
@@ -17,16 +17,16 @@ LosesScript (Serve script port turns kernel clients) = ⊥
 LosesScript (Trace script out form) = out.now ≡ script.now
 LosesScript (Migrate script trace out) = out.now ≡ script.now
 
--- the ranges of a live run's numbers: turns, and kernel workers
+-- The ranges of the numbers of turns and of kernel workers of a live run.
 abbrev pub AreInRange : ℕ → ℕ → Type 0
 AreInRange turns kernel = ((1 ≤ turns) × (turns ≤ 1000000)) × ((1 ≤ kernel) × (kernel ≤ 8))
 
--- a port, and after how many sessions a server ends, if it does
+-- The ranges of a server's port, and of its number of sessions if it has one.
 abbrev pub AreClients : ℕ → Option ℕ → Type 0
 AreClients port None = (1 ≤ port) × (port ≤ 65535)
 AreClients port (Some clients) = ((1 ≤ port) × (port ≤ 65535)) × ((1 ≤ clients) × (clients ≤ 1000000))
 
--- the numbers of a live run and of its clients keep their ranges
+-- Each number of a live run or a server is in its range.
 abbrev pub IsInRange : Job → Type 0
 IsInRange (Live script turns kernel out) = AreInRange turns kernel
 IsInRange (Serve script port turns kernel clients) = AreInRange turns kernel × AreClients port clients

@@ -1,4 +1,4 @@
-//! What the program is asked for, by its words.
+//! The command line: reads its words, and returns the job that they describe.
 #![tactic(auto)]
 
 mod table;

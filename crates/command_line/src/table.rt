@@ -15,11 +15,13 @@ pub enum Verb {
     Serve,
 }
 
-/// How an argument or an option of a command is written.
+/// The form of an argument or an option of a command.
 #[derive(Clone, Copy)]
 pub enum Shape {
     /// The path of a file, which is required.
     File,
+    /// The paths of files, at least one.
+    Files,
     /// This option with a path.
     Named(&'static str),
     /// This option with a number.
@@ -28,8 +30,8 @@ pub enum Shape {
     Port,
     /// The form of a trace, 1 or 2.
     Form,
-    /// A kind of finding.
-    Kind,
+    /// This option with a kind of finding, which may be repeated.
+    Kind(&'static str),
     /// This option without a value.
     Flag(&'static str),
 }
@@ -54,7 +56,7 @@ const COMMANDS: &str =
     "Debugger commands, one per line: where, show PLACE, goto N, back N, on N, watch PLACE, break PLACE = VALUE, unwatch, cont, rcont, sync, quit. docs/COMMANDS.md explains them, and docs/FAULTS.md the replies that begin with fault or refused.";
 
 const CHECKED: &str =
-    "Prints a line for each fault, at most 20, as SCRIPT:LINE:COLUMN: WHERE: what is there, and what is allowed. If the script has none, its schedule is run, and the first event that can't happen is printed in the same way. Without faults it prints ok, with status 0; otherwise the status is 1. Example:\n  uringwalk check examples/one_nop.json";
+    "Prints a line for each fault, at most 20, as SCRIPT:LINE:COLUMN: WHERE: what is there, and what is allowed. If the script has none, its schedule is run, and the first event that can't happen is printed in the same way. Without faults it prints ok, with status 0; otherwise the status is 1. SCRIPT - is standard input. Example:\n  uringwalk check examples/one_nop.json";
 
 const TRACED: &str =
     "Creates or replaces OUT, which can't be SCRIPT's own file. Example:\n  uringwalk trace examples/one_nop.json one_nop.trace\n  echo where | uringwalk replay one_nop.trace";
@@ -63,13 +65,13 @@ const MIGRATED: &str =
     "IN is a trace that trace --form 1 wrote. Creates or replaces OUT, which can be IN, but not SCRIPT's own file. Example:\n  uringwalk trace --form 1 examples/one_nop.json one_nop.trace\n  uringwalk migrate examples/one_nop.json one_nop.trace one_nop.trace";
 
 const LOGGED: &str =
-    "Prints a line for each event, its number and its words in a schedule, and below it a line for each place that it changed, as PLACE OLD -> NEW. Example:\n  uringwalk log examples/one_nop.json --from 3 --to 4";
+    "Prints a line for each event, its number and its words in a schedule, and below it a line for each place that it changed, as PLACE OLD -> NEW. RUN - is standard input. Example:\n  uringwalk log examples/one_nop.json --from 3 --to 4";
 
 const EXPLAINED: &str =
-    "Prints the kind of each finding, the moment to go to, and what happened; then the number of faults and of notes. The status is 3 if there are faults. docs/FINDINGS.md explains the kinds. Example:\n  uringwalk explain examples/severed_link/script.json";
+    "Prints the kind of each finding, the moment to go to, and what happened; then the number of faults and of notes. The status is 3 if there are faults that --allow doesn't name. With more than one RUN, a line RUN: comes before each one's findings; the status is 1 if one can't be run. RUN - is standard input. docs/FINDINGS.md explains the kinds. Example:\n  uringwalk explain examples/severed_link/script.json";
 
 const DRAWN: &str =
-    "OUT ends in .html for a page that a browser opens without a network, or in .json for trace events that Perfetto and chrome://tracing open. Creates or replaces OUT, which can't be RUN's own file. A run of more than 5000 events needs both --from and --to. Example:\n  uringwalk timeline examples/severed_link/script.json severed_link.html";
+    "OUT ends in .html for a page that a browser opens without a network, or in .json for trace events that Perfetto and chrome://tracing open. Creates or replaces OUT, which can't be RUN's own file. A run of more than 5000 events needs both --from and --to. RUN - is standard input. Example:\n  uringwalk timeline examples/severed_link/script.json severed_link.html";
 
 const LIVE: &str =
     "Runs each thread of the script, the poller if there is one, and each kernel worker in a thread of its own, all at once; the script's schedule isn't used. Prints closed E, with E the number of events, and then reads commands as walk does. The next run may differ: --trace saves this one for replay. Example:\n  uringwalk live examples/words_in_a_pipe/script.json --trace words.trace <examples/words_in_a_pipe/stdin\n  echo where | uringwalk replay words.trace";
@@ -101,7 +103,8 @@ const WORKERS: Operand = Operand {
     shape: Shape::Number("kernel"),
 };
 
-/// The kinds of findings.
+/// The names of the kinds of findings. `tests/documents` compares them with those that `explain`
+/// prints.
 pub const KINDS: &[&str] = &[
     "failed",
     "short",
@@ -135,24 +138,28 @@ pub const KINDS: &[&str] = &[
     "same-user-data",
     "not-durable",
     "refused-flags",
+    "stuck",
+    "closed-twice",
+    "fsync-retried",
 ];
 
 /// What help of the program says after its commands.
 pub const OPTIONS: &str = "Options of the commands:
-  trace     --form <FORM>  Form of the trace: 1 for events only, 2 for setup and events; default 2
-  log       --from <M>     First event to print: 0 to 4294967295, default 0
-            --to <N>       Event to stop before: 0 to 4294967295, default all
-  explain   --kind <KIND>  Report only findings of this kind, default all
-            --json         Print the findings as JSON, default text
-  timeline  --from <M>     First event to draw: 0 to 4294967295, default 0
-            --to <N>       Event to stop before: 0 to 4294967295, default all
-  live      --turns <N>    Turns of each thread, of the poller and of each kernel worker: 1 to 1000000, default 1000
-            --kernel <Q>   Number of kernel workers: 1 to 8, default 2
-            --trace <OUT>  Trace file to write, default none
-  serve     --port <P>     Port to listen on: 1 to 65535, required
-            --turns <N>    Turns of each thread, of the poller and of each kernel worker: 1 to 1000000, default 1000
-            --kernel <Q>   Number of kernel workers: 1 to 8, default 2
-            --clients <C>  Number of sessions to stop after: 1 to 1000000, default never
+  trace     --form <FORM>   Form of the trace: 1 for events only, 2 for setup and events; default 2
+  log       --from <M>      First event to print: 0 to 4294967295, default 0
+            --to <N>        Event to stop before: 0 to 4294967295, default all
+  explain   --kind <KIND>   Report only findings of this kind, default all; may be repeated
+            --allow <KIND>  Don't count faults of this kind for the status; may be repeated
+            --json          Print the findings as JSON, default text
+  timeline  --from <M>      First event to draw: 0 to 4294967295, default 0
+            --to <N>        Event to stop before: 0 to 4294967295, default all
+  live      --turns <N>     Turns of each thread, of the poller and of each kernel worker: 1 to 1000000, default 1000
+            --kernel <Q>    Number of kernel workers: 1 to 8, default 2
+            --trace <OUT>   Trace file to write, default none
+  serve     --port <P>      Port to listen on: 1 to 65535, required
+            --turns <N>     Turns of each thread, of the poller and of each kernel worker: 1 to 1000000, default 1000
+            --kernel <Q>    Number of kernel workers: 1 to 8, default 2
+            --clients <C>   Number of sessions to stop after: 1 to 1000000, default never
 
 Example: echo where | uringwalk walk examples/one_nop.json";
 
@@ -249,11 +256,20 @@ pub const WORDS: &[Word] = &[
         about: "Run a script or a trace, and report what went wrong, and when",
         after: EXPLAINED,
         operands: &[
-            RUN,
+            Operand {
+                name: "RUN",
+                help: RUN.help,
+                shape: Shape::Files,
+            },
             Operand {
                 name: "KIND",
-                help: "Report only findings of this kind, default all",
-                shape: Shape::Kind,
+                help: "Report only findings of this kind, default all; may be repeated",
+                shape: Shape::Kind("kind"),
+            },
+            Operand {
+                name: "ALLOWED",
+                help: "Don't count faults of this kind for the status; may be repeated",
+                shape: Shape::Kind("allow"),
             },
             Operand {
                 name: "json",

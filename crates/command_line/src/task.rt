@@ -1,48 +1,52 @@
-//! What the program is asked for.
+//! The jobs that a command line describes.
 
 /// The form of a trace.
 #[derive(Clone, Copy)]
 pub enum Form {
-    /// The first: the events alone.
+    /// Form 1: the events only.
     Events,
-    /// The second: the setup, and the events.
+    /// Form 2: the setup and the events.
     Whole,
 }
 
-/// What the words ask for. Files are named by their paths.
-#[derive(Clone, Copy)]
+/// A subcommand with its arguments and options. Files are named by their paths. The script of
+/// `Check` and the runs of `Log`, `Explain` and `Timeline` may be `-`, which is standard input.
+#[derive(Drop)]
 pub enum Job<'a> {
-    /// A session over the script in this file.
+    /// Runs the schedule of the script in this file, and answers commands.
     Walk(&'a str),
-    /// A session over the trace in this file.
+    /// Runs the trace in this file, and answers commands.
     Replay(&'a str),
-    /// What the events of the script or trace in this file changed: those from a number on, and
-    /// below another if there is one.
+    /// Prints the events of a script or a trace from number `from` up to, not including, number
+    /// `to`, and what each changed. Without `to` it prints all from `from` on.
     Log {
         run: &'a str,
         from: u32,
         to: Option<u32>,
     },
-    /// What is wrong with the script in this file.
+    /// Prints the faults of the script in this file.
     Check(&'a str),
-    /// What the run of the script or trace in this file shows: its findings, or those of one kind
-    /// alone.
+    /// Prints the findings in the run of each of some scripts and traces.
     Explain {
-        run: &'a str,
-        kind: Option<&'a str>,
+        /// At least one.
+        runs: Vec<&'a str>,
+        /// The names of the kinds to print, or none to print all.
+        kinds: Vec<&'a str>,
+        /// The names of the kinds whose faults don't change the exit status.
+        allowed: Vec<&'a str>,
         json: bool,
     },
-    /// A picture of the events of the script or trace in this file: those from a number on, and
-    /// below another.
+    /// Draws the events of a script or a trace from number `from` up to, not including, number
+    /// `to`, into the file `out`.
     Timeline {
         run: &'a str,
         out: &'a str,
         from: Option<u32>,
         to: Option<u32>,
     },
-    /// A session over a run that threads make together from the setup of the script in this file: a
-    /// thread for each of its threads, the poller if there is one, and `kernel` kernel workers. Each
-    /// makes `turns` turns. If there is an `out`, the run's trace is written there first.
+    /// Runs the threads of a script, its poller if it has one, and `kernel` kernel workers side by
+    /// side, each for `turns` turns. Then it answers commands. If there is an `out`, the trace of
+    /// the run is written there first.
     Live {
         script: &'a str,
         /// 1 to 1000000.
@@ -51,8 +55,8 @@ pub enum Job<'a> {
         kernel: u32,
         out: Option<&'a str>,
     },
-    /// Clients on a port of loopback, each with its own session over such a run while it continues.
-    /// It ends after `clients` sessions, or never.
+    /// Makes such a run, and answers clients on a port of loopback meanwhile. Each client has its
+    /// own session. It ends after `clients` sessions, or never.
     Serve {
         script: &'a str,
         /// From 1 on.
@@ -64,13 +68,14 @@ pub enum Job<'a> {
         /// 1 to 1000000.
         clients: Option<u32>,
     },
-    /// The trace of a script's schedule.
+    /// Writes the trace of a script's schedule to the file `out`.
     Trace {
         script: &'a str,
         out: &'a str,
         form: Form,
     },
-    /// A trace of the first form, made one of the second with a script's setup.
+    /// Writes a script's setup and the events of a trace of form 1 to the file `out`, as a trace of
+    /// form 2.
     Migrate {
         script: &'a str,
         trace: &'a str,

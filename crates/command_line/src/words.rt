@@ -14,17 +14,20 @@ const ONTO_SCRIPT: &str = "OUT is SCRIPT's own file: the trace would overwrite t
 /// The most turns that an actor of a live run makes.
 const MOST_TURNS: u32 = 1000000;
 
-/// How many it makes where the words don't say.
+/// The number of turns without the option.
 const DEFAULT_TURNS: u32 = 1000;
 
 /// The most kernel workers of a live run.
 const MOST_WORKERS: u32 = 8;
 
-/// How many there are where the words don't say.
+/// The number of kernel workers without the option.
 const DEFAULT_WORKERS: u32 = 2;
 
 /// The most sessions after which a server ends.
 const MOST_SESSIONS: u32 = 1000000;
+
+/// The place of an option that help lists after all others, as it lists `--help`.
+const LAST: usize = 999;
 
 const BEYOND_TURNS: &str = "invalid value for '--turns <N>': it must be 1 to 1000000";
 
@@ -34,11 +37,12 @@ const BEYOND_PORTS: &str = "invalid value for '--port <P>': it must be 1 to 6553
 
 const BEYOND_SESSIONS: &str = "invalid value for '--clients <C>': it must be 1 to 1000000";
 
-// What may follow a word, as clap takes it.
+// Returns an operand as clap's argument.
 fn arg_of<'a>(alloc: Global, operand: &'a Operand) -> Arg<'a> {
     let arg = Arg::new(alloc, operand.name).help(operand.help);
     match operand.shape {
         Shape::File => arg.required(true).action(ArgAction::Set),
+        Shape::Files => arg.required(true).num_args(1..).action(ArgAction::Append),
         Shape::Named(word) => arg.long(word).action(ArgAction::Set),
         Shape::Number(word) => arg
             .long(word)
@@ -54,12 +58,17 @@ fn arg_of<'a>(alloc: Global, operand: &'a Operand) -> Arg<'a> {
             .default_value("2")
             .value_parser(FORMS)
             .action(ArgAction::Set),
-        Shape::Kind => arg.long("kind").value_parser(KINDS).action(ArgAction::Set),
+        Shape::Kind(word) => arg
+            .long(word)
+            .value_name("KIND")
+            .value_parser(KINDS)
+            .hide_possible_values(word != "kind")
+            .action(ArgAction::Append),
         Shape::Flag(word) => arg.long(word).action(ArgAction::SetTrue),
     }
 }
 
-// A word, as clap takes it.
+// Returns a subcommand as clap's command.
 fn command_of<'a>(alloc: Global, word: &'a Word) -> Result<Command<'a>, AllocError> {
     let mut command = Command::new(alloc, word.name)
         .about(word.about)
@@ -81,12 +90,25 @@ fn form_of(matches: &ArgMatches<'_>) -> Form {
     }
 }
 
-// The number of this name, if the words have it.
+// Returns all values of an argument, in the order of the words.
+fn texts_of<'a>(
+    alloc: Global,
+    matches: &ArgMatches<'a>,
+    name: &str,
+) -> Result<Vec<&'a str>, AllocError> {
+    let mut texts = Vec::new(alloc);
+    if let Some(values) = matches.get_strs(name) {
+        texts.extend_from_slice(values)?;
+    }
+    Ok(texts)
+}
+
+// Returns the number of this name, if the words have it.
 fn number_of(matches: &ArgMatches<'_>, name: &str) -> Option<u32> {
     matches.get_one::<u32>(name)
 }
 
-// What the word of this name does.
+// Returns the subcommand of this name.
 fn verb_of(name: &str) -> Verb {
     for word in WORDS {
         if word.name == name {
@@ -96,8 +118,22 @@ fn verb_of(name: &str) -> Verb {
     Verb::Walk
 }
 
-// What the words of a verb ask for.
-fn job_of<'a>(verb: Verb, matches: &ArgMatches<'a>) -> Job<'a> {
+// Returns the job of `explain`.
+fn explain_of<'a>(alloc: Global, matches: &ArgMatches<'a>) -> Result<Job<'a>, AllocError> {
+    Ok(Job::Explain {
+        runs: texts_of(alloc, matches, "RUN")?,
+        kinds: texts_of(alloc, matches, "KIND")?,
+        allowed: texts_of(alloc, matches, "ALLOWED")?,
+        json: matches.get_flag("json"),
+    })
+}
+
+// Returns the job that the words after a subcommand describe.
+fn job_of<'a>(
+    alloc: Global,
+    verb: Verb,
+    matches: &ArgMatches<'a>,
+) -> Result<Job<'a>, AllocError> {
     let script = text_of(matches, "SCRIPT");
     let run = text_of(matches, "RUN");
     let out = text_of(matches, "OUT");
@@ -105,7 +141,7 @@ fn job_of<'a>(verb: Verb, matches: &ArgMatches<'a>) -> Job<'a> {
     let to = number_of(matches, "N");
     let turns = to.unwrap_or(DEFAULT_TURNS);
     let kernel = number_of(matches, "Q").unwrap_or(DEFAULT_WORKERS);
-    match verb {
+    Ok(match verb {
         Verb::Walk => Job::Walk(script),
         Verb::Check => Job::Check(script),
         Verb::Replay => Job::Replay(text_of(matches, "TRACE")),
@@ -124,11 +160,7 @@ fn job_of<'a>(verb: Verb, matches: &ArgMatches<'a>) -> Job<'a> {
             from: from.unwrap_or(0),
             to,
         },
-        Verb::Explain => Job::Explain {
-            run,
-            kind: matches.get_str("KIND"),
-            json: matches.get_flag("json"),
-        },
+        Verb::Explain => explain_of(alloc, matches)?,
         Verb::Timeline => Job::Timeline { run, out, from, to },
         Verb::Live => Job::Live {
             script,
@@ -143,12 +175,12 @@ fn job_of<'a>(verb: Verb, matches: &ArgMatches<'a>) -> Job<'a> {
             kernel,
             clients: number_of(matches, "C"),
         },
-    }
+    })
 }
 
-// Whether a trace would take its script's place.
-fn loses_script(job: Job<'_>) -> bool
-    ensures { IsTrue result ↔ LosesScript job.entry }
+// Returns whether a trace would be written to the path of its script.
+fn loses_script(job: &Job<'_>) -> bool
+    ensures { IsTrue result ↔ LosesScript job.now }
 {
     match job {
         Job::Trace { script, out, .. }
@@ -182,7 +214,7 @@ fn run_out_of_range(turns: u32, kernel: u32) -> Option<&'static str>
     None
 }
 
-// Which number of a server is out of its range.
+// Returns the range of the number of a server that is out of its range, as text.
 fn clients_out_of_range(port: u16, clients: Option<u32>) -> Option<&'static str>
     ensures { IfNone result (AreClients port clients) }
 {
@@ -195,27 +227,27 @@ fn clients_out_of_range(port: u16, clients: Option<u32>) -> Option<&'static str>
     }
 }
 
-// Which number of a job is out of its range.
-fn out_of_range(job: Job<'_>) -> Option<&'static str>
-    ensures { IfNone result (IsInRange job.entry) }
+// Returns the range of the number of a job that is out of its range, as text.
+fn out_of_range(job: &Job<'_>) -> Option<&'static str>
+    ensures { IfNone result (IsInRange job.now) }
 {
     match job {
-        Job::Live { turns, kernel, .. } => run_out_of_range(turns, kernel),
+        Job::Live { turns, kernel, .. } => run_out_of_range(*turns, *kernel),
         Job::Serve {
             port,
             turns,
             kernel,
             clients,
             ..
-        } => match clients_out_of_range(port, clients) {
+        } => match clients_out_of_range(*port, *clients) {
             Some(text) => Some(text),
-            None => run_out_of_range(turns, kernel),
+            None => run_out_of_range(*turns, *kernel),
         },
         _ => None,
     }
 }
 
-// The program with one word more.
+// Returns the program with one more subcommand.
 fn with<'a>(
     command: Command<'a>,
     word: Result<Command<'a>, AllocError>,
@@ -223,16 +255,17 @@ fn with<'a>(
     command.subcommand(word?)
 }
 
-// The option that prints the version. The help of the program doesn't list it.
+// Returns the option that prints the version.
 fn version_option<'a>(alloc: Global) -> Arg<'a> {
     Arg::new(alloc, "version")
         .short('V')
         .long("version")
+        .help("Print version")
+        .display_order(LAST)
         .action(ArgAction::Version)
-        .hide(true)
 }
 
-// The program, with all its words.
+// Returns the program with all its subcommands.
 fn program<'a>(alloc: Global) -> Result<Command<'a>, AllocError> {
     let mut command = Command::new(alloc, "uringwalk")
         .version(VERSION)
@@ -247,16 +280,20 @@ fn program<'a>(alloc: Global) -> Result<Command<'a>, AllocError> {
     Ok(command)
 }
 
-// What the words ask for, whatever its files and numbers are.
-fn job_from_words<'a>(command: &mut Command<'a>, words: &'a [&'a str]) -> Result<Job<'a>, Error> {
+// Returns the job that the words describe, whatever its files and numbers are.
+fn job_from_words<'a>(
+    alloc: Global,
+    command: &mut Command<'a>,
+    words: &'a [&'a str],
+) -> Result<Job<'a>, Error> {
     let matches = command.try_get_matches_from_mut(words)?;
     Ok(match matches.subcommand() {
-        Some((name, matches)) => job_of(verb_of(name), matches),
+        Some((name, matches)) => job_of(alloc, verb_of(name), matches)?,
         None => Job::Walk(""),
     })
 }
 
-// The error of a kind, with its text.
+// Returns an error of this kind, with this text.
 fn refused(command: &mut Command<'_>, kind: ErrorKind, text: &str) -> Error {
     match command.error(kind, text) {
         Ok(error) => error,
@@ -264,27 +301,31 @@ fn refused(command: &mut Command<'_>, kind: ErrorKind, text: &str) -> Error {
     }
 }
 
-// What the words ask for, unless it is refused.
-fn accepted<'a>(command: &mut Command<'a>, words: &'a [&'a str]) -> Result<Job<'a>, Error>
+// Returns the job that the words describe, if its files and numbers are allowed.
+fn accepted<'a>(
+    alloc: Global,
+    command: &mut Command<'a>,
+    words: &'a [&'a str],
+) -> Result<Job<'a>, Error>
     ensures keeps_script { IfOk result (λ j. LosesScript j → ⊥) }
     ensures in_range { IfOk result IsInRange }
 {
-    let job = job_from_words(command, words)?;
-    if loses_script(job) {
+    let job = job_from_words(alloc, command, words)?;
+    if loses_script(&job) {
         return Err(refused(command, ErrorKind::ArgumentConflict, ONTO_SCRIPT));
     }
-    match out_of_range(job) {
+    match out_of_range(&job) {
         Some(text) => Err(refused(command, ErrorKind::ValueValidation, text)),
         None => Ok(job),
     }
 }
 
-/// Reads the words of the program. Words that can't be read, help, the version, a trace onto its
-/// script, and a number out of its range are errors with their text.
+/// Returns the job that the words of the program describe. Wrong words, help, the version, a trace
+/// onto its script, and a number out of its range are errors with their text.
 pub fn job<'a>(alloc: Global, words: &'a [&'a str]) -> Result<Job<'a>, Error>
     ensures keeps_script { IfOk result (λ j. LosesScript j → ⊥) }
     ensures in_range { IfOk result IsInRange }
 {
     let mut command = program(alloc)?;
-    accepted(&mut command, words)
+    accepted(alloc, &mut command, words)
 }

@@ -1,5 +1,5 @@
 -- What `explain` reports about the run of a script or a trace.
-use Rattle.std.specs.Prelude.{◌≡◌, Bool, true, ◌&&◌, Option, Some, None, List, ℕ}
+use Rattle.std.specs.Prelude.{◌≡◌, ◌==◌, Bool, not, ◌&&◌, ◌||◌, List, length, ℕ}
 use Rattle.std.specs.List.{list_any}
 use Rattle.scenario.specs.declared.event.Event.{Event}
 use Rattle.scenario.specs.declared.setup.Setup.{Setup}
@@ -15,42 +15,49 @@ use Rattle.findings.specs.Findings.{IsReportOf}
 use Rattle.finding_kinds.specs.Kinds.{is_fault}
 use Rattle.finding_kinds.specs.Orders.{have_one_name}
 
--- Whether a kind is requested: only those of one name, or all.
-abbrev pub is_requested : Option Kind → Kind → Bool
-is_requested None kind = true
-is_requested (Some only) kind = have_one_name only kind
+-- Whether a kind has the name of one of some kinds.
+abbrev pub is_among : List Kind → Kind → Bool
+is_among kinds kind = list_any (λ other. have_one_name other kind) kinds
+
+-- Whether a kind is requested: one with the name of one of these, or any if there are none.
+abbrev pub is_requested : List Kind → Kind → Bool
+is_requested kinds kind = (length kinds == 0) || is_among kinds kind
 
 -- Whether a finding is a fault of a requested kind.
-abbrev pub counts : Option Kind → Finding → Bool
-counts request f = is_requested request f.kind && is_fault f.kind
+abbrev pub is_fault_of : List Kind → Finding → Bool
+is_fault_of kinds f = is_requested kinds f.kind && is_fault f.kind
 
--- The result for a run: no event is refused, and `some` says whether a finding of a requested kind
--- is a fault.
-pub record Explains (s : Setup) (es : List Event) (request : Option Kind) (some : Bool) : Type 0 where
+-- Whether a finding counts for the exit status: it is a fault of a requested kind that isn't
+-- allowed.
+abbrev pub counts : List Kind → List Kind → Finding → Bool
+counts kinds allowed f = is_fault_of kinds f && not (is_among allowed f.kind)
+
+-- The result for a run: no event is refused, and `some` says whether a finding counts.
+pub record Explains (s : Setup) (es : List Event) (kinds allowed : List Kind) (some : Bool) : Type 0 where
   pub runs : Accepts (start s) es
   pub found : List Finding
   pub reported : IsReportOf s es found
-  pub faults : some ≡ list_any (counts request) found
+  pub faults : some ≡ list_any (counts kinds allowed) found
 
 -- The result for the run that the bytes describe.
-abbrev pub ExplainsRun : List ℕ → Option Kind → Bool → Type 0
-ExplainsRun bytes request some = (p : Scenario) × Reads bytes p × Explains p.setup p.schedule request some
+abbrev pub ExplainsRun : List ℕ → List Kind → List Kind → Bool → Type 0
+ExplainsRun bytes kinds allowed some =
+    (p : Scenario) × Reads bytes p × Explains p.setup p.schedule kinds allowed some
 
 -- ---- why a run isn't explained
 
--- The first refused event of a run, an allocation failure, or a failed write.
+-- The first refused event of a run, or an allocation failure.
 abbrev pub Unexplained : Setup → List Event → ReportFault → Type 0
 Unexplained s es (Schedule i n) = IsRefused s es i n
 Unexplained s es Memory = Unit {0}
-Unexplained s es Write = Unit {0}
+Unexplained s es Write = ⊥
 Unexplained s es (Script f) = ⊥
 Unexplained s es (Trace f) = ⊥
 
--- Why bytes are not explained: their first fault, the first refused event, or a failed allocation
--- or write.
+-- Why bytes are not explained: their first fault, the first refused event, or an allocation failure.
 abbrev pub UnexplainedRun : List ℕ → ReportFault → Type 0
 UnexplainedRun bytes (Schedule i n) = (p : Scenario) × Reads bytes p × IsRefused p.setup p.schedule i n
 UnexplainedRun bytes Memory = Unit {0}
-UnexplainedRun bytes Write = Unit {0}
+UnexplainedRun bytes Write = ⊥
 UnexplainedRun bytes (Script f) = IsUnread bytes (unread.Script f)
 UnexplainedRun bytes (Trace f) = IsUnread bytes (unread.Trace f)

@@ -1,48 +1,68 @@
-//! The `explain` subcommand: runs a script or a trace and prints its findings.
-ghost use Rattle.std.specs.Prelude.{◌≡◌, ◌⊎◌, ◌≤◌, None, IfOk, IfErr, length};
+//! The `explain` subcommand: runs a script or a trace and reports its findings.
+ghost use Rattle.std.specs.Prelude.{◌≡◌, ◌≤◌, None, IfOk, IfErr, length};
 ghost use Rattle.std.specs.List.{list_any};
 ghost use Rattle.scenario.specs.Setups.{setup_refusal};
-ghost use Rattle.explanations.specs.Explained.{is_requested, counts, Explains, ExplainsRun, Unexplained, UnexplainedRun};
+ghost use Rattle.explanations.specs.Explained.{is_among, is_requested, is_fault_of, counts, Explains, ExplainsRun, Unexplained, UnexplainedRun};
 
 use crate::json::add_object;
 use finding_kinds::{Finding, Kind};
 use findings::search_run;
 use machine::{Event, Setup, State};
-use runs::{Ended, ReportFault, RunFault, read_run};
+use runs::{Ended, ReportFault, read_run};
 use sentences::{Run, sentence};
 use std::alloc::{AllocError, Global};
-use std::io::Write;
-use whole_files::write_out;
 
 /// The options of `explain`.
 #[derive(Clone, Copy)]
-pub struct Request {
-    /// Report only this kind (`--kind`), or all kinds if None.
-    pub kind: Option<Kind>,
+pub struct Request<'a> {
+    /// Report only kinds with these names (`--kind`), or all kinds if there are none.
+    pub kinds: &'a [Kind],
+    /// Faults of kinds with these names don't change the exit status (`--allow`).
+    pub allowed: &'a [Kind],
     /// Print JSON (`--json`) instead of paragraphs.
     pub json: bool,
 }
 
-fn is_requested(request: Option<Kind>, kind: Kind) -> bool
-    ensures { result ≡ is_requested request kind }
+/// The report of a run.
+#[derive(Drop)]
+pub struct Explanation {
+    /// The findings of the requested kinds in order, as text or as JSON.
+    pub text: String,
+    /// Whether some of them is a fault that isn't allowed.
+    pub is_faulty: bool,
+}
+
+// Returns whether a kind has the name of one of some kinds.
+fn is_among(kinds: &[Kind], kind: Kind) -> bool
+    ensures { result ≡ is_among kinds.now kind }
 {
-    match request {
-        Some(only) => only.has_name_of(kind),
-        None => true,
-    }
+    kinds.iter().any(|other| other.has_name_of(kind))
+}
+
+fn is_requested(kinds: &[Kind], kind: Kind) -> bool
+    ensures { result ≡ is_requested kinds.now kind }
+{
+    kinds.is_empty() || is_among(kinds, kind)
 }
 
 // Returns whether the finding is a fault of a requested kind.
-fn counts(request: Option<Kind>, finding: &Finding) -> bool
-    ensures { result ≡ counts request finding.now }
+fn is_fault_of(kinds: &[Kind], finding: &Finding) -> bool
+    ensures { result ≡ is_fault_of kinds.now finding.now }
 {
-    is_requested(request, finding.kind) && finding.kind.is_fault()
+    is_requested(kinds, finding.kind) && finding.kind.is_fault()
 }
 
-fn has_fault(request: Option<Kind>, found: &[Finding]) -> bool
-    ensures { result ≡ list_any (counts request) found.now }
+// Returns whether the finding is a fault of a requested kind that isn't allowed.
+fn counts(kinds: &[Kind], allowed: &[Kind], finding: &Finding) -> bool
+    ensures { result ≡ counts kinds.now allowed.now finding.now }
 {
-    found.iter().any(|finding| counts(request, finding))
+    is_fault_of(kinds, finding) && !is_among(allowed, finding.kind)
+}
+
+fn has_fault(kinds: &[Kind], allowed: &[Kind], found: &[Finding]) -> bool
+    ensures { result ≡ list_any (counts kinds.now allowed.now) found.now }
+{
+    found.iter().any(|finding| counts(kinds, allowed, finding))
 }
 
 // Appends a headline, with the kind and the moment, and the finding's sentences below it.
@@ -65,11 +85,11 @@ fn add_finding(
     alloc: Global,
     out: &mut String,
     run: &Run<'_>,
-    request: Request,
+    request: Request<'_>,
     index: usize,
     finding: Finding,
 ) -> Result<(), AllocError> {
-    if !is_requested(request.kind, finding.kind) {
+    if !is_requested(request.kinds, finding.kind) {
         return Ok(());
     }
     if request.json {
@@ -83,7 +103,7 @@ fn add_findings(
     alloc: Global,
     out: &mut String,
     run: &Run<'_>,
-    request: Request,
+    request: Request<'_>,
 ) -> Result<(), AllocError> {
     for index in 0..run.found.len() {
         add_finding(alloc, out, run, request, index, run.found[index])?;
@@ -91,35 +111,29 @@ fn add_findings(
     Ok(())
 }
 
-// Returns how many findings of the requested kinds there are, and how many of them are faults.
-fn counted(run: &Run<'_>, request: Option<Kind>) -> (usize, usize) {
-    let reported = run
-        .found
-        .iter()
-        .filter(|finding| is_requested(request, finding.kind))
-        .count();
-    let faults = run
-        .found
-        .iter()
-        .filter(|finding| counts(request, finding))
-        .count();
-    (reported, faults)
-}
-
+// Appends the numbers of faults and of notes; and of allowed faults, if `--allow` was given.
 fn add_sum(
     alloc: Global,
     out: &mut String,
-    run: &Run<'_>,
-    request: Request,
+    found: &[Finding],
+    request: Request<'_>,
 ) -> Result<(), AllocError> {
-    let (reported, faults) = counted(run, request.kind);
-    let notes = reported.saturating_sub(faults);
-    let sum = format!(in alloc; "faults {faults}, notes {notes}\n")?;
+    let Request { kinds, allowed, .. } = request;
+    let reported = found.iter().filter(|it| is_requested(kinds, it.kind)).count();
+    let bad = found.iter().filter(|it| is_fault_of(kinds, it)).count();
+    let faults = found.iter().filter(|it| counts(kinds, allowed, it)).count();
+    let notes = reported.saturating_sub(bad);
+    let spared = bad.saturating_sub(faults);
+    let sum = if allowed.is_empty() {
+        format!(in alloc; "faults {faults}, notes {notes}\n")?
+    } else {
+        format!(in alloc; "faults {faults}, notes {notes}, allowed {spared}\n")?
+    };
     out.push_str(sum.as_str())
 }
 
 // Returns the report of a run.
-fn text_of(alloc: Global, run: &Run<'_>, request: Request) -> Result<String, AllocError> {
+fn text_of(alloc: Global, run: &Run<'_>, request: Request<'_>) -> Result<String, AllocError> {
     let mut out = String::new(alloc);
     if request.json {
         out.push_str("[\n")?;
@@ -127,41 +141,22 @@ fn text_of(alloc: Global, run: &Run<'_>, request: Request) -> Result<String, All
         out.push_str("\n]\n")?;
     } else {
         add_findings(alloc, &mut out, run, request)?;
-        add_sum(alloc, &mut out, run, request)?;
+        add_sum(alloc, &mut out, run.found, request)?;
     }
     Ok(out)
 }
 
-fn write_reports<W: Write>(
-    alloc: Global,
-    run: &Run<'_>,
-    request: Request,
-    writer: &mut W,
-) -> Result<(), ReportFault>
-    ensures { IfErr result (λ f. (f ≡ ReportFault.Memory) ⊎ (f ≡ ReportFault.Write)) }
-{
-    let Ok(text) = text_of(alloc, run, request) else {
-        return Err(ReportFault::Memory);
-    };
-    match write_out(writer, text.as_str().as_bytes()) {
-        Ok(()) => Ok(()),
-        Err(_) => Err(ReportFault::Write),
-    }
-}
-
-// Runs the events and prints their findings. Returns whether some finding of a requested kind is a
-// fault.
-#[tactic(auto, using(crate::proofs::Unexplained::unexplained_by_output))]
-fn explain_events<W: Write>(
+// Runs the events and reports their findings.
+fn explain_events(
     alloc: Global,
     setup: &Setup,
     events: &[Event],
-    request: Request,
-    writer: &mut W,
-) -> Result<bool, ReportFault>
+    request: Request<'_>,
+) -> Result<Explanation, ReportFault>
     requires starts { setup_refusal setup.now ≡ None }
     requires most { length events.now ≤ 1048576 }
-    ensures ok { IfOk result (Explains setup.now events.now request.kind) }
+    ensures ok { IfOk result (λ e. Explains setup.now events.now request.entry.kinds.now
+        request.entry.allowed.now e.is_faulty) }
     ensures err { IfErr result (Unexplained setup.now events.now) }
 {
     let Ok(mut state) = State::new(alloc, setup) else {
@@ -179,28 +174,28 @@ fn explain_events<W: Write>(
         history: &found.history,
         found: &found.findings,
     };
-    match write_reports(alloc, &run, request, writer) {
-        Ok(()) => Ok(has_fault(request.kind, &found.findings)),
-        Err(fault) => Err(fault),
-    }
+    let Ok(text) = text_of(alloc, &run, request) else {
+        return Err(ReportFault::Memory);
+    };
+    let is_faulty = has_fault(request.kinds, request.allowed, &found.findings);
+    Ok(Explanation { text, is_faulty })
 }
 
-/// Runs a trace, if the first byte is `U`, or else a script, and prints the findings of the
-/// requested kinds in order. Returns whether some of them is a fault. Errors: the input is
-/// malformed, an event is refused, an allocation or a write fails.
+/// Runs a trace, if the first byte is `U`, or else a script, and reports its findings. Errors: the
+/// input is malformed, an event is refused, or an allocation fails.
 #[tactic(auto, using(crate::proofs::Unexplained::unexplained_unread, crate::proofs::Unexplained::unexplained_run))]
-pub fn explain_run<W: Write>(
+pub fn explain_run(
     alloc: Global,
     bytes: &[u8],
-    request: Request,
-    writer: &mut W,
-) -> Result<bool, ReportFault>
-    ensures ok { IfOk result (ExplainsRun bytes.now request.kind) }
+    request: Request<'_>,
+) -> Result<Explanation, ReportFault>
+    ensures ok { IfOk result (λ e. ExplainsRun bytes.now request.entry.kinds.now
+        request.entry.allowed.now e.is_faulty) }
     ensures err { IfErr result (UnexplainedRun bytes.now) }
 {
     let run = match read_run(alloc, bytes) {
         Ok(run) => run,
         Err(fault) => return Err(ReportFault::from(fault)),
     };
-    explain_events(alloc, run.setup(), run.events(), request, writer)
+    explain_events(alloc, run.setup(), run.events(), request)
 }

@@ -3,7 +3,9 @@
 
 mod explaining;
 mod json;
+mod naming;
 mod reporting;
 
-pub use explaining::{Request, explain_run};
+pub use explaining::{Explanation, Request, explain_run};
+pub use naming::{named_fault, named_report};
 pub use reporting::{Report, reports_of};

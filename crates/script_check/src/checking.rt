@@ -3,7 +3,7 @@ ghost use Rattle.std.specs.Prelude.{◌≡◌, ◌≤◌, None, length, IfOk, If
 ghost use Rattle.scenario.specs.Setups.{setup_refusal};
 ghost use Rattle.script_check.specs.Verdicts.{Ends, IsVerdict, IsOfOutput, IsUnreported};
 
-use crate::refusals::sentence;
+use crate::refused::sentence_at;
 use crate::report::{Source, event_text, faults_text};
 use crate::verdict::Verdict;
 use machine::{Event, Refusal, Setup, State};
@@ -15,7 +15,7 @@ use std::io::Write;
 use whole_files::write_out;
 
 /// The most bytes that a script may have.
-const MOST_BYTES: usize = 8388608;
+pub(crate) const MOST_BYTES: usize = 8388608;
 
 // Writes the report.
 fn write_text<W: Write>(
@@ -39,10 +39,7 @@ fn refusal_text(
     index: u32,
     refusal: Refusal,
 ) -> Result<String, AllocError> {
-    let Some(event) = events.get(index as usize) else {
-        return Ok(String::new(alloc));
-    };
-    let message = sentence(alloc, state, setup, *event, refusal)?;
+    let message = sentence_at(alloc, state, setup, events, index, refusal)?;
     event_text(alloc, source, index, message.as_str())
 }
 

@@ -6,14 +6,18 @@ mod checking;
 mod document;
 mod entry_names;
 mod fault_sentences;
+mod file_lines;
 mod further;
 mod locating;
 mod not_json;
 mod ranges;
 mod refusals;
+mod refused;
 mod report;
 mod verdict;
 mod walk;
 
 pub use checking::check_script;
+pub use file_lines::{long_line, unread_line};
+pub use refused::refusal_sentence;
 pub use verdict::Verdict;

@@ -1,12 +1,13 @@
 //! The `timeline` subcommand: draws a run into a file.
 
-use crate::reporting::fault_of_report;
+use crate::input::{is_standard_input, read_input};
+use crate::reporting::Failure;
 use crate::{WHOLE_TRACE_AND_ONE, fail, file_fault};
 use debug_server::Fault;
 use std::process::ExitCode;
 use std::rt::Files;
 use timeline::{Drawing, Window, draw_run, picture_of};
-use whole_files::{lead_to_one_file, read_file, write_file};
+use whole_files::{lead_to_one_file, write_file};
 
 /// The exit status if the command line is wrong.
 const WORDS: u8 = 2;
@@ -33,10 +34,18 @@ fn keep_page(rt: &(impl Files + AllocGlobal), out: &str, page: &[u8]) -> Result<
     }
 }
 
+// Returns whether a picture would overwrite its run.
+fn loses_run(rt: &(impl Files + AllocGlobal), run: &str, out: &str) -> Result<bool, Fault> {
+    if is_standard_input(run) {
+        return Ok(false);
+    }
+    lead_to_one_file(rt, run, out).map_err(file_fault)
+}
+
 /// Draws the events in a window of the run of a script or a trace, and writes the picture to a
 /// file. Returns the exit status.
 pub fn draw_file(
-    rt: &(impl Files + Eprint + AllocGlobal),
+    rt: &(impl Files + Input + Eprint + AllocGlobal),
     run: &str,
     out: &str,
     window: Window,
@@ -44,13 +53,13 @@ pub fn draw_file(
     let Some(picture) = picture_of(out) else {
         return Ok(fail(rt, WORDS, &NO_PICTURE));
     };
-    if lead_to_one_file(rt, run, out).map_err(file_fault)? {
+    if loses_run(rt, run, out)? {
         return Ok(fail(rt, WORDS, &ONTO_RUN));
     }
-    let bytes = read_file(rt, run, WHOLE_TRACE_AND_ONE).map_err(file_fault)?;
+    let bytes = read_input(rt, run, WHOLE_TRACE_AND_ONE)?;
     match draw_run(rt.alloc(), run, &bytes, window, picture) {
         Ok(Drawing::Bytes(page)) => keep_page(rt, out, &page),
         Ok(Drawing::TooLong(events)) => Ok(refuse_long(rt, events)),
-        Err(fault) => Err(fault_of_report(fault)),
+        Err(fault) => Ok(Failure::from_report(rt.alloc(), &bytes, fault).print(rt)),
     }
 }

@@ -1,39 +1,183 @@
-//! The `explain` subcommand: the findings of a run.
+//! The `explain` subcommand: the findings of one run or of several.
 
-use crate::reporting::fault_of_report;
-use crate::{WHOLE_TRACE_AND_ONE, file_fault};
-use debug_server::Fault;
-use explanations::{Request, explain_run};
+use crate::WHOLE_TRACE_AND_ONE;
+use crate::input::read_input;
+use crate::output::{Output, write_text};
+use crate::reporting::Failure;
+use debug_server::{Fault, RunFault};
+use explanations::{Explanation, Request, explain_run, named_fault, named_report};
 use finding_kinds::Kind;
-use std::io;
+use std::alloc::{AllocError, Global};
 use std::process::ExitCode;
 use std::rt::Files;
-use whole_files::read_file;
 
-/// The exit status if some finding is a fault.
+/// The exit status if some finding counts.
 const SOME_FAULTS: u8 = 3;
 
-/// Prints the findings in the run of a script or a trace: those of one kind, or all. Returns exit
-/// status 3 if some listed finding is a fault, otherwise 0.
-pub fn explain_file(
-    rt: &(impl Files + Print + AllocGlobal),
-    path: &str,
-    kind: Option<&str>,
+/// The result of explaining a run.
+#[derive(Clone, Copy)]
+enum Ending {
+    /// No finding counts.
+    Fine,
+    /// Some finding counts.
+    Faulty,
+    /// The run can't be read or run.
+    Failed,
+}
+
+impl Ending {
+    // Returns the result for a report, by whether some finding counts.
+    fn from_report(is_faulty: bool) -> Ending {
+        if is_faulty {
+            Ending::Faulty
+        } else {
+            Ending::Fine
+        }
+    }
+
+    // Returns the worse of two results.
+    fn or_worse(self, other: Ending) -> Ending {
+        match (self, other) {
+            (Ending::Failed, _) | (_, Ending::Failed) => Ending::Failed,
+            (Ending::Faulty, _) | (_, Ending::Faulty) => Ending::Faulty,
+            (Ending::Fine, Ending::Fine) => Ending::Fine,
+        }
+    }
+
+    fn status(self) -> ExitCode {
+        match self {
+            Ending::Fine => ExitCode::SUCCESS,
+            Ending::Faulty => ExitCode::from(SOME_FAULTS),
+            Ending::Failed => ExitCode::FAILURE,
+        }
+    }
+}
+
+// Returns the first kind of each name.
+fn kinds_of(alloc: Global, words: &[&str]) -> Result<Vec<Kind>, AllocError> {
+    let mut kinds = Vec::new(alloc);
+    for word in words {
+        if let Some(kind) = Kind::of_word(*word) {
+            kinds.push(kind)?;
+        }
+    }
+    Ok(kinds)
+}
+
+// Reads a run, and returns its report.
+fn explanation_of(
+    rt: &(impl Files + Input + AllocGlobal),
+    run: &str,
+    request: Request<'_>,
+) -> Result<Explanation, Failure> {
+    let bytes = match read_input(rt, run, WHOLE_TRACE_AND_ONE) {
+        Ok(bytes) => bytes,
+        Err(fault) => return Err(Failure::from_fault(rt.alloc(), fault)),
+    };
+    match explain_run(rt.alloc(), &bytes, request) {
+        Ok(explanation) => Ok(explanation),
+        Err(fault) => Err(Failure::from_report(rt.alloc(), &bytes, fault)),
+    }
+}
+
+// Prints the report of the only run.
+fn explain_one<R: Files + Input + Print + Eprint + AllocGlobal>(
+    rt: &R,
+    run: &str,
+    request: Request<'_>,
+) -> Result<ExitCode, Fault> {
+    match explanation_of(rt, run, request) {
+        Ok(Explanation { text, is_faulty }) => {
+            write_text(&mut Output::new(rt), Ok(text))?;
+            Ok(Ending::from_report(is_faulty).status())
+        }
+        Err(failure) => Ok(failure.print(rt)),
+    }
+}
+
+// Returns the fault of a run among several, with the name of the run.
+fn text_of_failure(
+    alloc: Global,
+    run: &str,
+    failure: &Failure,
+    json: bool,
+) -> Result<String, AllocError> {
+    let fault = &failure.fault;
+    let line = format!(in alloc; "{fault}")?;
+    named_fault(alloc, run, line.as_str(), failure.reason.as_str(), json)
+}
+
+// Returns the report or the fault of a run among several, with the name of the run.
+fn named_text(
+    rt: &(impl Files + Input + AllocGlobal),
+    run: &str,
+    request: Request<'_>,
+) -> (Result<String, AllocError>, Ending) {
+    let alloc = rt.alloc();
+    match explanation_of(rt, run, request) {
+        Ok(explanation) => {
+            let report = explanation.text.as_str();
+            let text = named_report(alloc, run, report, request.json);
+            (text, Ending::from_report(explanation.is_faulty))
+        }
+        Err(failure) => (text_of_failure(alloc, run, &failure, request.json), Ending::Failed),
+    }
+}
+
+// Returns the text before the report of the run at an index.
+fn text_before(index: usize, json: bool) -> &'static str {
+    match (json, index) {
+        (true, 0) => "[\n",
+        (true, _) => ",\n",
+        (false, 0) => "",
+        (false, _) => "\n",
+    }
+}
+
+// Prints the report of each of several runs.
+fn explain_each<R: Files + Input + Print + AllocGlobal>(
+    rt: &R,
+    runs: &[&str],
+    request: Request<'_>,
+) -> Result<ExitCode, Fault> {
+    let mut output = Output::new(rt);
+    let mut ending = Ending::Fine;
+    for (index, run) in runs.iter().enumerate() {
+        let before = text_before(index, request.json);
+        write_text(&mut output, String::from_str(rt.alloc(), before))?;
+        let (text, end) = named_text(rt, *run, request);
+        write_text(&mut output, text)?;
+        ending = ending.or_worse(end);
+    }
+    if request.json {
+        write_text(&mut output, String::from_str(rt.alloc(), "\n]\n"))?;
+    }
+    Ok(ending.status())
+}
+
+/// Prints the findings in the runs of scripts and traces: those of kinds with some names, or all.
+/// With several runs each report has the name of its run. Returns exit status 1 if a run can't be
+/// read or run; else 3 if a listed finding is a fault of a kind whose name isn't allowed; else 0.
+pub fn explain_files<R: Files + Input + Print + Eprint + AllocGlobal>(
+    rt: &R,
+    runs: &[&str],
+    kinds: &[&str],
+    allowed: &[&str],
     json: bool,
 ) -> Result<ExitCode, Fault> {
-    let bytes = read_file(rt, path, WHOLE_TRACE_AND_ONE).map_err(file_fault)?;
-    let kind = match kind {
-        Some(word) => Kind::of_word(word),
-        None => None,
+    let Ok(kinds) = kinds_of(rt.alloc(), kinds) else {
+        return Err(Fault::Run(RunFault::Memory));
     };
-    match explain_run(
-        rt.alloc(),
-        &bytes,
-        Request { kind, json },
-        &mut io::writer(rt),
-    ) {
-        Ok(true) => Ok(ExitCode::from(SOME_FAULTS)),
-        Ok(false) => Ok(ExitCode::SUCCESS),
-        Err(fault) => Err(fault_of_report(fault)),
+    let Ok(allowed) = kinds_of(rt.alloc(), allowed) else {
+        return Err(Fault::Run(RunFault::Memory));
+    };
+    let request = Request {
+        kinds: &kinds,
+        allowed: &allowed,
+        json,
+    };
+    match runs {
+        [run] => explain_one(rt, *run, request),
+        _ => explain_each(rt, runs, request),
     }
 }

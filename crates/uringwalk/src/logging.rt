@@ -1,22 +1,26 @@
 //! The `log` subcommand: each event of a run and what it changed.
 
-use crate::reporting::fault_of_report;
-use crate::{WHOLE_TRACE_AND_ONE, file_fault};
+use crate::WHOLE_TRACE_AND_ONE;
+use crate::input::read_input;
+use crate::output::Output;
+use crate::reporting::Failure;
 use debug_server::Fault;
 use run_log::{EventRange, log_run};
-use std::io;
+use std::process::ExitCode;
 use std::rt::Files;
-use whole_files::read_file;
 
-/// Prints the events in a range, and what each changed, in the run of a script or a trace.
-pub fn log_file(
-    rt: &(impl Files + Print + AllocGlobal),
+/// Prints the events in a range, and what each changed, in the run of a script or a trace. Returns
+/// exit status 0, or 1 after a fault.
+pub fn log_file<R: Files + Input + Print + Eprint + AllocGlobal>(
+    rt: &R,
     path: &str,
     range: EventRange,
-) -> Result<(), Fault> {
-    let bytes = read_file(rt, path, WHOLE_TRACE_AND_ONE).map_err(file_fault)?;
-    match log_run(rt.alloc(), &bytes, range, &mut io::writer(rt)) {
-        Ok(()) => Ok(()),
-        Err(fault) => Err(fault_of_report(fault)),
+) -> Result<ExitCode, Fault> {
+    let bytes = read_input(rt, path, WHOLE_TRACE_AND_ONE)?;
+    let mut output = Output::new(rt);
+    match log_run(rt.alloc(), &bytes, range, &mut output) {
+        Ok(()) => Ok(ExitCode::SUCCESS),
+        Err(_) if !output.has_reader() => Ok(ExitCode::FAILURE),
+        Err(fault) => Ok(Failure::from_report(rt.alloc(), &bytes, fault).print(rt)),
     }
 }

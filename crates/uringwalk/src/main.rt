@@ -8,8 +8,10 @@ ghost use Rattle.uringwalk.specs.Files.{fault_as};
 mod checking;
 mod drawing;
 mod explaining;
+mod input;
 mod living;
 mod logging;
+mod output;
 mod reporting;
 mod serving;
 
@@ -19,7 +21,7 @@ use debug_server::{
     Fault, Form, Job, RunFault, ServeFault, Traced, job, migrate_trace, replay, trace_script, walk,
 };
 use drawing::draw_file;
-use explaining::explain_file;
+use explaining::explain_files;
 use living::live_file;
 use logging::log_file;
 use run_log::EventRange;
@@ -143,9 +145,14 @@ fn run<
     match job {
         Job::Walk(script) => done(answer_over(rt, Over::Script, script)),
         Job::Replay(trace) => done(answer_over(rt, Over::Trace, trace)),
-        Job::Log { run, from, to } => done(log_file(rt, run, EventRange { from, to })),
+        Job::Log { run, from, to } => log_file(rt, run, EventRange { from, to }),
         Job::Check(script) => check_file(rt, script),
-        Job::Explain { run, kind, json } => explain_file(rt, run, kind, json),
+        Job::Explain {
+            runs,
+            kinds,
+            allowed,
+            json,
+        } => explain_files(rt, &runs, &kinds, &allowed, json),
         Job::Timeline { run, out, from, to } => draw_file(rt, run, out, Window { from, to }),
         Job::Live {
             script,
@@ -166,16 +173,16 @@ fn run<
 }
 
 // Returns whether a trace would overwrite its script, although their paths differ.
-fn loses_script(rt: &(impl Files + AllocGlobal), job: Job<'_>) -> Result<bool, Fault> {
+fn loses_script(rt: &(impl Files + AllocGlobal), job: &Job<'_>) -> Result<bool, Fault> {
     match job {
         Job::Trace { script, out, .. } | Job::Migrate { script, out, .. } => {
-            lead_to_one_file(rt, script, out).map_err(file_fault)
+            lead_to_one_file(rt, *script, *out).map_err(file_fault)
         }
         Job::Live {
             script,
             out: Some(out),
             ..
-        } => lead_to_one_file(rt, script, out).map_err(file_fault),
+        } => lead_to_one_file(rt, *script, *out).map_err(file_fault),
         Job::Walk(_)
         | Job::Replay(_)
         | Job::Log { .. }
@@ -222,7 +229,7 @@ fn carry_out<
 >(rt: &R, job: Job<'_>) -> ExitCode
     requires { IsInRange job }
 {
-    match loses_script(rt, job) {
+    match loses_script(rt, &job) {
         Ok(false) => match run(rt, job) {
             Ok(status) => status,
             Err(fault) => fail(rt, 1, &fault),
