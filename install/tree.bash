@@ -265,7 +265,7 @@ pack() {
     gzip -9n) >"$scratch/tar.gz"
 }
 
-# Copies a file of scratch into the current folder, under a name of its own.
+# Copies a file of scratch into the current folder, under a new name.
 stage_here() {
   attempt mktemp -- ./.uringwalk.XXXXXX || return
   leftover+=("$why")

@@ -43,8 +43,8 @@ def ran(room, situation, number, how="one"):
 class Expected:
     """What a situation prints without a failure: the sums before the call, its answer, and the sums after it.
 
-    `done` is what it prints while allocations are counted. A session is then not asked for its state before the call, since
-    the questions change it."""
+    `done` is what it prints while allocations are counted. The state of a session is not read before the call then, since
+    reading it changes it."""
 
     def __init__(self, room, situation):
         calls, _, _ = ran(room, situation, 0)

@@ -7,7 +7,7 @@ ENDING = signal.SIGHUP, signal.SIGINT, signal.SIGTERM
 
 
 def run(words, timeout=None, **environment):
-    """Runs words in a session of their own without input, and returns their status and outputs as text."""
+    """Runs words in a new session without input, and returns their status and outputs as text."""
     signal.pthread_sigmask(signal.SIG_BLOCK, ENDING)  # until the process is known here
     try:
         return finished(words, timeout, {**os.environ, **environment})

@@ -1,6 +1,6 @@
 """The eager run of a script: the schedule's steps, takes and ticks, and after each all that the kernel can do by then.
 
-It is made by the proved program alone, which is asked for each event whether it can happen. Guesses save questions."""
+It is made by the proved program alone, which says of each event whether it can happen. Guesses save calls of it."""
 import traces
 from model import TIMERS, Run
 from traces import Event

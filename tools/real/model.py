@@ -15,7 +15,7 @@ TIMERS = (11, 15)
 
 
 class Fault(Exception):
-    """The program ended with a fault of its own: its line, and its status."""
+    """The program ended with a fault: its line, and its status."""
 
     def __init__(self, text, status):
         super().__init__(text)

@@ -1,4 +1,4 @@
--- Why a run isn't explained, from why it isn't read, searched or written.
+-- A run isn't explained if it can't be read or searched, or if its report can't be written.
 use Rattle.std.proofs.Common.{◌≡◌, ◌⊎◌, inl, inr, ℕ, List, sym, subst}
 use Rattle.scenario.specs.declared.event.Event.{Event}
 use Rattle.scenario.specs.declared.setup.Setup.{Setup}

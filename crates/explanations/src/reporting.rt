@@ -1,4 +1,4 @@
-//! The findings of a run with their sentences, as a list for other crates to present.
+//! Lists the findings of a run with their sentences, for other crates to present.
 ghost use Rattle.std.specs.Prelude.{◌≡◌, ◌∷◌, ◌++◌, [], IfOk, OnOk};
 ghost use Rattle.explanations.specs.ReportLists.{findings_in};
 

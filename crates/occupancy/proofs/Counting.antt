@@ -17,7 +17,7 @@ within_list f [] i o e h = let k = ap is_some e in absurd cc
 within_list f (x ∷ xs) zero o e h = omega arith
 within_list f (x ∷ xs) (suc i) o e h = let l = within_list f xs i o e h in omega (arith, l)
 
--- An index without a value is past the end.
+-- An index without a value is past the end of the list.
 pub beyond_list : {X : Type 0} (f : X → Value) (xs : List X) (i : ℕ) (o : Option Value) → o ≡ option_map f (slice_get xs i) → is_some o ≡ false → length xs ≤ i
 beyond_list f [] i o e h = omega arith
 beyond_list f (x ∷ xs) zero o e h = let k = ap is_some e in absurd cc
@@ -46,7 +46,7 @@ take_next xs i x h =
     let e : get_or xs i x ≡ x = some_is _ _ (sym (slice_get-get_or xs i x l) ∙ h) in
     take_more xs i x l ∙ ap (λ y. take i xs ++ y ∷ []) e
 
--- Mapping one more element, where there is one.
+-- Mapping one more element, if there is one.
 pub map_next : {X Y : Type 0} (f : X → Y) (xs : List X) (i : ℕ) (y : Y) → option_map f (slice_get xs i) ≡ Some y → take (suc i) (map f xs) ≡ take i (map f xs) ++ y ∷ []
 map_next f [] i y e = absurd cc
 map_next f (x ∷ xs) zero y e = let k : f x ≡ y = cc in ap (λ z. z ∷ []) k

@@ -1,4 +1,4 @@
--- What holds of an observer of a run, from the start over each event to the end.
+-- The invariant of a follower: at the start, after each event, and at the end.
 use Rattle.std.proofs.Common.{◌≡◌, ℕ, zero, suc, ◌+◌, ◌<◌, ◌≤◌, Bool, true, false, refl, sym, ap, ◌∙◌, subst, List, [], ◌∷◌, ◌++◌, length, map, min, arith, eq-eqb, le_refl}
 use Rattle.std.specs.Prelude.{Option, Some, None, slice_get, ◌==◌, ◌&&◌, nat_le}
 use Rattle.std.proofs.lemmas.Bool.{eqb-true}
@@ -86,7 +86,7 @@ same_threads : (m n : Machine) → Grows m n → length n.threads ≡ length m.t
 same_threads m n g =
     sym (length-map n.threads program_of) ∙ (ap length (sym g.setup.programs) ∙ length-map m.threads program_of)
 
--- No event lessens the requests and the overflowed completions below those recorded.
+-- After an event there are at least as many requests and overflowed completions as were recorded.
 pub rows_recorded : (s : Setup) (es : List Event) (i : ℕ) (e : Event) (past : List Change) (n : Machine) (c : Occupancy) → Follows s es i c → IsAfter s es i e past n → length c.stamps.items ≤ length n.table
 rows_recorded s es i e past n c l a = let k = l.occupancy.stamps.rows in let g = (grown s es i e past n a).rows in omega (arith, k, g)
 
@@ -126,7 +126,7 @@ follows_more s es i e past n c c' l a f t o =
             let before = l.growing j (omega (arith, b, apart)) in
             omega (arith, before, longer)
 
--- The threads and the poller are read at their moment, and unchanged at the others.
+-- The threads and the poller are read at the requested moment. Later events leave them unchanged.
 pub stages_read : (s : Setup) (es : List Event) (i at : ℕ) (n : Machine) (x : ThreadStages) → IsAt s es (i + 1) n → i + 1 ≡ min at (length es) → AreThreadStages n x
     → min at (length es) ≤ i + 1 → AreThreadStages (moment s es (min at (length es))) x
 stages_read s es i at n x a e stages l = subst (λ j. AreThreadStages (moment s es j) x) e (subst (λ m. AreThreadStages m x) a.here stages)

@@ -78,7 +78,7 @@ queued_as x Queued m = refl
 queued_as x Issued m = refl
 queued_as x (Ended res) m = refl
 
--- A request that existed before is in a phase at the next moment.
+-- The lifetime of an earlier request, after its phase at the next moment is recorded.
 stamped_on : (s : Setup) (es : List Event) (n r : ℕ) (x : Stamps) (row : Row) → IsStamped s es n r x → slice_get (moment s es (n + 1)).table r ≡ Some row → IsStamped s es (n + 1) r (stamped x row.phase (n + 1))
 stamped_on s es n r x row c h =
     let progress = progress_more s es n r x row (record { issued = c.issued; ended = c.ended }) h row.phase refl in
@@ -90,7 +90,7 @@ stamped_on s es n r x row c h =
       ended = progress.ended;
     }
 
--- A request that doesn't change.
+-- The lifetime of a request that doesn't change stays the same.
 stamped_still : (s : Setup) (es : List Event) (n r : ℕ) (x : Stamps) → IsStamped s es n r x → slice_get (moment s es (n + 1)).table r ≡ slice_get (moment s es n).table r → IsStamped s es (n + 1) r x
 stamped_still s es n r x c h = record {
   queued = first_kept _ n (Some x.queued) c.queued (ap (λ o. option_map_or (λ (row : Row). any_phase row.phase) o false) h);
@@ -103,11 +103,11 @@ beyond [] r h = refl
 beyond (x ∷ xs) zero h = absurd (omega arith)
 beyond (x ∷ xs) (suc r) h = beyond xs r (omega arith)
 
--- A request that didn't exist before.
+-- A request that doesn't exist at a moment passes no test there.
 absent : (test : Phase → Bool) (s : Setup) (es : List Event) (n r i : ℕ) → length (moment s es i).table ≤ r → has_row test r (moment s es i) ≡ false
 absent test s es n r i h = ap (λ o. option_map_or (λ (row : Row). test row.phase) o false) (beyond (moment s es i).table r h)
 
--- A request that is new at the next moment.
+-- The lifetime of a request that is new at the next moment.
 stamped_new : (s : Setup) (es : List Event) (n r : ℕ) (row : Row) → ((i : ℕ) → i ≤ n → length (moment s es i).table ≤ r) → slice_get (moment s es (n + 1)).table r ≡ Some row
     → IsStamped s es (n + 1) r (stamped (new_stamps (n + 1)) row.phase (n + 1))
 stamped_new s es n r row none h =

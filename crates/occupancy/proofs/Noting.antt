@@ -37,7 +37,7 @@ twice : (o : Option ℕ) (m : ℕ) → first_moment (first_moment o m) m ≡ fir
 twice None m = refl
 twice (Some k) m = refl
 
--- Recording a phase twice is recording it once.
+-- Recording a phase twice has the same result as recording it once.
 pub stamped_twice : (x : Stamps) (p : Phase) (m : ℕ) → stamped (stamped x p m) p m ≡ stamped x p m
 stamped_twice x Queued m = refl
 stamped_twice x Issued m = ap (λ (o : Option ℕ). record { queued = x.queued; issued = o; ended = x.ended }) (twice x.issued m)
@@ -110,7 +110,7 @@ added_length [] zero y = refl
 added_length [] (suc k) y = let e = added_length [] k y in omega (arith, e)
 added_length (x ∷ xs) k y = let e = added_length xs k y in omega (arith, e)
 
--- One more request.
+-- Adding one more request.
 pub added_more : {X : Type 0} (xs ys : List X) (n r : ℕ) (y : X) → n ≤ r → ys ≡ xs ++ replicate (r - n) y → ys ++ y ∷ [] ≡ xs ++ replicate (r + 1 - n) y
 added_more xs ys n r y h e =
     let one : replicate (r - n) y ++ y ∷ [] ≡ replicate (r - n + 1) y = replicate-append-replicate (r - n) 1 y in

@@ -12,7 +12,7 @@ abbrev pub number_in : Option Value → ℕ
 number_in (Some (Number n)) = n
 number_in _ = 0
 
--- The items that wait in the two rings and in the backlog, and the time in nanoseconds.
+-- The number of items in each of the two rings and in the backlog, and the clock in nanoseconds.
 abbrev pub filling_of : Machine → Filling
 filling_of m = record {
   submissions = waiting m.submissions.head m.submissions.tail;

@@ -57,8 +57,8 @@ pub record IsOccupancy (s : Setup) (es : List Event) (n : ℕ) (c : Occupancy) :
   pub stamps : AreStamped s es n c.stamps.items
   pub overflowed : c.overflowed ≡ length (moment s es n).backlog.items
 
--- What holds of the record after n events. No earlier moment has more requests, and the threads are
--- at most 16.
+-- The invariant of the record after n events. No earlier moment has more requests, and there are at
+-- most 16 threads.
 pub record Follows (s : Setup) (es : List Event) (n : ℕ) (c : Occupancy) : Type 0 where
   pub most : length es ≤ 1048576
   pub occupancy : IsOccupancy s es n c
@@ -72,14 +72,14 @@ pub record AreThreadStages (m : Machine) (x : ThreadStages) : Type 0 where
   pub awake : x.awake ≡ option_map is_awake m.poller
 
 -- The result of a whole run: its record, its requests at the end, and the threads and the poller at
--- moment `at`, or at the end if that comes first.
+-- moment `at`. If the run is shorter, they are those at the end.
 pub record IsFollowed (s : Setup) (es : List Event) (at : ℕ) (f : Followed) : Type 0 where
   pub occupancy : IsOccupancy s es (length es) f.occupancy
   pub rows : f.rows.items ≡ (moment s es (length es)).table
   pub thread_stages : AreThreadStages (moment s es (min at (length es))) f.thread_stages
 
--- What holds of an observer after n events: the record follows the run, and once moment `at` or the
--- end has come, the threads and the poller are those of that moment.
+-- The invariant of a follower after n events. The record is that of the run. Once moment `at` or
+-- the end is reached, the threads and the poller are those of that moment.
 pub record HasFollowed (s : Setup) (es : List Event) (n at : ℕ) (c : Occupancy) (x : ThreadStages) : Type 0 where
   pub follows : Follows s es n c
   pub thread_stages : min at (length es) ≤ n

@@ -18,7 +18,7 @@ first_moment (Some first) moment = Some first
 abbrev pub new_stamps : ℕ → Stamps
 new_stamps moment = record { queued = moment; issued = None; ended = None }
 
--- The lifetime of a request that is in a phase at a moment.
+-- A lifetime, updated with the phase of its request at a moment.
 abbrev pub stamped : Stamps → Phase → ℕ → Stamps
 stamped x Queued moment = x
 stamped x Issued moment =
@@ -46,7 +46,7 @@ stamp_changes rows moment [] xs = xs
 stamp_changes rows moment (c ∷ cs) xs =
     stamp_changes rows moment cs (stamp_place rows moment c.place xs)
 
--- The same after the new requests have been added.
+-- The lifetimes after adding the new requests and recording those that an undo record names.
 abbrev pub stamps_after : List Row → ℕ → List Change → List Stamps → List Stamps
 stamps_after rows moment cs xs =
     stamp_changes rows moment cs (xs ++ replicate (length rows - length xs) (new_stamps moment))

@@ -20,7 +20,7 @@ pub struct Filling {
     pub clock: u64,
 }
 
-// Returns the number in a place, or 0 if it holds none.
+// Returns the number in a place, or 0 if there is none.
 fn number_at(state: &State, place: Place) -> u64
     ensures value { result ≡ number_in (view state.now place) }
     ensures formed { WellFormed state.now }
@@ -31,7 +31,7 @@ fn number_at(state: &State, place: Place) -> u64
     }
 }
 
-// Returns how many items wait between the head and the tail of a ring, which wrap around at 32 bits
+// Returns how many items are between the head and the tail of a ring, which wrap around at 32 bits
 // (io_uring(7)).
 fn waiting(head: u64, tail: u64) -> u32
     requires head { head < 2 ^ 32 }
@@ -57,7 +57,7 @@ fn completions_waiting(state: &State) -> u32
     waiting(head, tail)
 }
 
-/// Returns the occupancy of a state, given how many completions have overflowed up to it.
+/// Returns the occupancy of a state, given how many completions have overflowed so far.
 pub(crate) fn filling_of(state: &State, overflowed: u32) -> Filling
     requires { overflowed ≡ length state.now.backlog.items }
     ensures value { result ≡ filling_of state.now }

@@ -1,4 +1,4 @@
-//! Follows a run: an observer that records its queue occupancy and request lifetimes.
+//! An observer that records the queue occupancy and the request lifetimes of a run.
 ghost use Rattle.std.specs.Prelude.{◌≡◌, ◌≤◌, ℕ, None, List, length, slice_get, IfOk};
 ghost use Rattle.scenario.specs.declared.event.Event.{Event};
 ghost use Rattle.scenario.specs.declared.setup.Setup.{Setup};
@@ -16,7 +16,7 @@ use runs::{Observed, Observer};
 use std::alloc::{AllocError, Global};
 use std::marker::{Brand, PhantomData};
 
-/// The moment of which a follower reads the threads and the poller, for proofs.
+/// The moment at which a follower reads the threads and the poller, for proofs.
 pub trait StagesMoment {
     ghost at: { ℕ };
 }
@@ -40,10 +40,10 @@ pub struct Followed {
 #[derive(Drop)]
 pub struct Follower<K> {
     alloc: Global,
-    // The moment of the threads and the poller.
+    // The moment at which the threads and the poller are read.
     at: u32,
     occupancy: Occupancy,
-    // Those of moment 0 until that moment.
+    // The threads and the poller at moment 0, and from moment `at` on those at that moment.
     thread_stages: ThreadStages,
     proof: PhantomData<K>,
 }

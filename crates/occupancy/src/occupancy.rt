@@ -37,8 +37,8 @@ impl Occupancy {
         })
     }
 
-    /// Records the moment after a step, from the step's undo record. On an allocation failure the
-    /// record may be incomplete.
+    /// Records the moment after a step, from the step's undo record. After an allocation failure
+    /// the record may be incomplete.
     pub(crate) fn note(
         &mut self,
         past: &Record,

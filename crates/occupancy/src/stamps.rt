@@ -29,7 +29,7 @@ fn first_of(first: Option<u32>, moment: u32) -> Option<u32>
     }
 }
 
-// Returns the lifetime of a request that is in a phase at a moment.
+// Returns a lifetime, updated with the phase of its request at a moment.
 fn stamped(before: Stamps, phase: Phase, moment: u32) -> Stamps
     ensures { result ≡ stamped before phase moment }
 {

@@ -1,4 +1,4 @@
-//! Whether the threads and the poller of a state can proceed or wait.
+//! Whether each thread waits, and whether the poller is awake.
 ghost use Rattle.std.specs.Prelude.{◌≡◌, ◌≤◌, map, option_map, length, slice_get, IfOk};
 ghost use Rattle.sqpoll.specs.Pollers.{is_awake};
 ghost use Rattle.occupancy.specs.Occupancies.{AreThreadStages};

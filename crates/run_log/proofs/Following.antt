@@ -1,4 +1,4 @@
--- A log after one more event, and a log that stops.
+-- A log extended by one event, and a log that stops.
 use Rattle.std.proofs.Common.{◌≡◌, ◌⊎◌, inl, inr, ℕ, ◌+◌, ◌<◌, suc, List, [], ◌++◌, length, slice_get, Bool, true, false, Option, Some, refl, sym, ap, ◌∙◌, subst, arith, append_assoc}
 use Rattle.std.specs.Prelude.{⊤, Result, Ok, Err, OnOk, IfOk, IfErr}
 use Rattle.std.proofs.KnownBytes.{Appends-nil, Appends-trans, Appends-kept}
@@ -37,7 +37,7 @@ reports_of s es i e past m text a shows = record {
   shows = subst (λ x. Shows s i e (view x) past text) a.link.next.changed shows;
 }
 
--- The text of i + 1 events, from the text of i events.
+-- The log of i + 1 events, from the log of i events.
 logs_more : (s : Setup) (es : List Event) (r : EventRange) (i : ℕ) (e : Event) (past : List Change) (m : Machine) (before last : List ℕ) → IsAfter s es i e past m → ReportsIf (has r i) s i (moment s es i) e last
     → Logs s es r i before → Logs s es r (i + 1) (before ++ last)
 logs_more s es r i e past m before last a report log =
@@ -59,27 +59,27 @@ written_with s es r i e past m last a b c at report w more =
       appended = Appends-trans a b c _ _ w.appended more;
     }
 
--- An event that isn't in the range.
+-- An event outside of the range adds nothing to the log.
 pub written_silent : (s : Setup) (es : List Event) (r : EventRange) (i : ℕ) (e : Event) (past : List Change) (m : Machine) (a b : Option (List ℕ)) → IsAfter s es i e past m → has r i ≡ false
     → Written s es r i a b → Written s es r (i + 1) a b
 written_silent s es r i e past m a b at off w =
     let report : ReportsIf (has r i) s i (moment s es i) e [] = subst (λ x. ReportsIf x s i (moment s es i) e []) (sym off) refl in
     written_with s es r i e past m [] a b b at report w (Appends-nil b)
 
--- An event in the range, whose lines were written.
+-- An event in the range adds its lines, once they are written.
 pub written_more : (s : Setup) (es : List Event) (r : EventRange) (i : ℕ) (e : Event) (past : List Change) (m : Machine) (a b c : Option (List ℕ)) → IsAfter s es i e past m → has r i ≡ true
     → Written s es r i a b → (text : List ℕ) × Shows s i e (view m) past text × Appends b c text → Written s es r (i + 1) a c
 written_more s es r i e past m a b c at on w h =
     let report : ReportsIf (has r i) s i (moment s es i) e h.0 = subst (λ x. ReportsIf x s i (moment s es i) e h.0) (sym on) (reports_of s es i e past m h.0 at h.1) in
     written_with s es r i e past m h.0 a b c at report w h.2
 
--- ---- an end
+-- ---- where a log stops
 
--- The log is complete before an event.
+-- A log stays as it is if nothing more is written.
 pub written_kept : (s : Setup) (es : List Event) (r : EventRange) (i : ℕ) (a b c : Option (List ℕ)) → Written s es r i a b → Keeps b c → Written s es r i a c
 written_kept s es r i a b c w k = record { within = w.within; runs = w.runs; text = w.text; log = w.log; appended = Appends-kept a b c _ w.appended k }
 
--- A write of the lines of an event failed, or an allocation did.
+-- A log stops if an allocation fails, or if the lines of an event can't be written.
 pub stopped_at : (s : Setup) (es : List Event) (r : EventRange) (i : ℕ) (e : Event) (past : List Change) (m : Machine) (f : ReportFault) (a b c : Option (List ℕ)) → IsAfter s es i e past m → has r i ≡ true → Written s es r i a b
     → ((f ≡ Memory) × Keeps b c) ⊎ ((f ≡ Write) × (text : List ℕ) × Shows s i e (view m) past text × WritesFront b c text) → Stopped s es r f a c
 stopped_at s es r i e past m f a b c at on w (inl h) = subst (λ x. Stopped s es r x a c) (sym h.0) (i, written_kept s es r i a b c w h.1)

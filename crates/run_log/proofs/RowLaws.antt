@@ -1,4 +1,4 @@
--- The rows hold all changes, and each row is a single change or consecutive bytes.
+-- The rows contain all changes, and each row is a single change or consecutive bytes.
 use Rattle.std.proofs.Common.{◌≡◌, List, [], ◌∷◌, ◌++◌, cond, Bool, true, false, refl, ap, ◌∙◌}
 use Rattle.std.proofs.lemmas.List.Elements.{All-nil, All-cons, All-head, All-tail}
 use Rattle.std.specs.List.{flat_map, All}

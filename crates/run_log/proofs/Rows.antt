@@ -23,7 +23,7 @@ parted d (e ∷ es) = ap (onto d) (parted e es) ∙ by (is_next d.place e.place)
     by true h = refl
     by false h = ap (λ x. (d ∷ []) ∷ x) (sym h)
 
--- The next change continues the row, or doesn't.
+-- The length of a row, by whether the next change continues it.
 pub from_next : (p : Place) (ds : List Changed) (i : ℕ) (d : Changed) → i < length ds → length_from p (drop i ds) ≡ cond (is_next p (get_or ds i d).place) (suc (length_from (get_or ds i d).place (drop (i + 1) ds))) zero
 from_next p ds i d h =
     let e : suc i ≡ i + 1 = omega arith in

@@ -87,7 +87,7 @@ abbrev pub Logged : List ℕ → EventRange → Option (List ℕ) → Option (Li
 Logged bytes r held held' =
     (p : Scenario) × Reads bytes p × Written p.setup p.schedule r (length p.schedule) held held'
 
--- Why bytes aren't logged. They can't be read, and nothing was written; or the log stopped.
+-- Why bytes aren't logged: they can't be read, so nothing was written, or the log stopped.
 abbrev pub Unlogged : List ℕ → EventRange → ReportFault → Option (List ℕ) → Option (List ℕ) → Type 0
 Unlogged bytes r f held held' =
     ((u : RunFault) × IsUnread bytes u × (f ≡ of_reading u) × Keeps held held')

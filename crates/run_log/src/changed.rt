@@ -8,7 +8,7 @@ use machine::State;
 use places::{Change, Place, Record, Value};
 use std::alloc::{AllocError, Global};
 
-/// The number of 32-bit indexes.
+/// 2^32, the number of 32-bit indexes.
 const INDEXES: u128 = 4294967296;
 
 /// A place that a step changed, with its values before and after the step. `None` means absent.

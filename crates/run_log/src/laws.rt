@@ -1,4 +1,4 @@
-//! Laws of the definitions.
+//! Laws about how the changes of an event are divided into lines.
 ghost use Rattle.std.specs.Prelude.{◌≡◌, List};
 ghost use Rattle.std.specs.List.{flat_map, All};
 ghost use Rattle.run_log.specs.Lines.{rows};

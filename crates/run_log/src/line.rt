@@ -1,4 +1,4 @@
-//! The lines of an event.
+//! Writes the lines of an event.
 ghost use Rattle.std.specs.Prelude.{◌≡◌, ◌<◌, ◌++◌, length, codes, map, IfOk, OnOk};
 ghost use Rattle.std.specs.List.{flat_map};
 ghost use Rattle.run_log.specs.Lines.{value_shown, olds_text, news_text, end_text, values_text, change_text, line_text, rows, event_lines};

@@ -19,7 +19,7 @@ use std::io::Write;
 use std::marker::{Brand, PhantomData};
 use whole_files::write_out;
 
-/// What holds where a log starts.
+/// The writer and the range at the start of a log, for proofs.
 pub trait LogStart {
     // The writer's contents, if they are known, and the name of the reference to it.
     ghost contents: { Option (List ℕ) };
@@ -38,7 +38,7 @@ impl LogStart for Brand {
     ghost range = { record { from = 0; to = None } };
 }
 
-// Writes the lines of each event in a range as soon as it has run.
+// An observer that writes the lines of each event in a range after the event was stepped.
 #[derive(Drop)]
 struct Logger<'a, W, S> {
     alloc: Global,
@@ -47,7 +47,7 @@ struct Logger<'a, W, S> {
     start: PhantomData<S>,
 }
 
-// Returns the lines of the event that led to `state`, from its undo record.
+// Returns the lines of an event, from its undo record and the state after it.
 fn report(
     alloc: Global,
     setup: &Setup,
@@ -63,7 +63,7 @@ fn report(
     event_lines(alloc, setup, index, event, &changes)
 }
 
-// Writes the lines of the event that led to `state`.
+// Writes the lines of an event, from its undo record and the state after it.
 fn write_report<W: Write>(
     alloc: Global,
     setup: &Setup,
@@ -124,7 +124,7 @@ impl<'a, W: Write, S: LogStart> Observer for Logger<'a, W, S> {
     }
 }
 
-// Runs events from the start, and shows them to a logger.
+// Runs events from the start, with a logger as observer.
 fn log_from<W: Write, S: LogStart>(
     state: &mut State,
     setup: &Setup,
@@ -146,7 +146,8 @@ fn log_from<W: Write, S: LogStart>(
     Ok(())
 }
 
-/// Runs events from a setup. Writes the lines of each event in the range as soon as it has run.
+/// Runs events from the start of a setup. Writes the lines of each event in the range after its
+/// step.
 pub fn log_events<W: Write>(
     alloc: Global,
     setup: &Setup,
@@ -175,7 +176,7 @@ pub fn log_events<W: Write>(
     log_from(&mut state, setup, events, &mut logger)
 }
 
-/// Logs a trace if the bytes begin with a `U`, and otherwise a script.
+/// Logs the run of a trace if the first byte is `U`, otherwise the run of a script.
 pub fn log_run<W: Write>(
     alloc: Global,
     bytes: &[u8],

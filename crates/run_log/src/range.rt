@@ -10,7 +10,7 @@ pub struct EventRange {
 }
 
 impl EventRange {
-    /// Whether an event is in the range.
+    /// Returns whether an event is in the range.
     pub fn has(&self, index: usize) -> bool
         ensures { result ≡ has self.now index }
     {

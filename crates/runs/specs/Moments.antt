@@ -1,4 +1,4 @@
--- What an observer sees of a run.
+-- What an observer is given of a run, at each event and when the run ends early.
 use Rattle.std.specs.Prelude.{◌≡◌, ◌≤◌, ◌<◌, ◌+◌, ℕ, List, slice_get, length, take, Some}
 use Rattle.places.specs.declared.value.Change.{Change}
 use Rattle.places.specs.View.{Exact}
@@ -29,9 +29,9 @@ pub record IsAfter (s : Setup) (es : List Event) (i : ℕ) (e : Event) (past : L
   pub link : Link (moment s es i) e past m
   pub exact : Exact (view (moment s es i)) (view m) past
 
--- Why a run ends early, with the machine and the observer then. A refused event leaves the machine
--- before it, and the observer has seen exactly the events before it. So it is where an allocation
--- fails, at some event. An observer may stop the run at any event.
+-- Why a run ends early, with the machine and the observer then. If an event is refused, or an
+-- allocation fails at it, the machine is the one before that event. The observer has seen exactly
+-- the earlier events. An observer may stop the run at any event.
 abbrev pub Ends : {O E : Type 0} → (O → Setup → List Event → ℕ → Type 0)
     → (O → Setup → List Event → ℕ → E → Type 0)
     → Setup → List Event → Machine → O → Ended E → Type 0

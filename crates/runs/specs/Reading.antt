@@ -14,7 +14,7 @@ abbrev pub scenario_of : Source → Scenario
 scenario_of (from.Script p) = p
 scenario_of (from.Trace s es) = record { setup = s; schedule = es }
 
--- What holds of each run: it can start from its setup, and has at most 1,048,576 events.
+-- A run that can be stepped: its setup is accepted, and it has at most 1,048,576 events.
 pub record Startable (p : Scenario) : Type 0 where
   pub starts : setup_refusal p.setup ≡ None
   pub most : length p.schedule ≤ 1048576
@@ -24,7 +24,7 @@ abbrev pub is_trace : List ℕ → Bool
 is_trace [] = false
 is_trace (b ∷ bs) = b == 85
 
--- The bytes are a trace of the second form if `trace`, and otherwise a script, of this run.
+-- The bytes describe this run: as a trace of the second form, or else as a script.
 abbrev pub ReadsAs : Bool → List ℕ → Scenario → Type 0
 ReadsAs true bytes p = IsTrace2 p.setup p.schedule bytes
 ReadsAs false bytes p = ReadsScript bytes (Ok p)

@@ -1,4 +1,4 @@
-//! Stepping the events of a run, each once.
+//! Steps each event of a run once, and calls an observer.
 ghost use Rattle.std.specs.Prelude.{◌≡◌, ◌≤◌, ◌<◌, ◌+◌, length, OnOk, IfErr};
 ghost use Rattle.machine.specs.Runs.{start, Accepts};
 ghost use Rattle.runs.specs.Moments.{IsAt, Ends};
@@ -68,8 +68,8 @@ fn step<O: Observer>(
     }
 }
 
-/// Steps the events of a run from its start, each once, and shows each to an observer. If an event
-/// is refused, the state is the one before it.
+/// Steps each event of a run once, from its start, and calls the observer before and after each. If
+/// an event is refused, leaves the state before it.
 pub fn drive<O: Observer>(
     state: &mut State,
     setup: &Setup,

@@ -1,5 +1,5 @@
-//! Runs: reading one from a script or a trace, and stepping each of its events once while an
-//! observer looks on.
+//! Reads a run from a script or a trace, and steps each of its events once, with an observer that
+//! collects what a report needs.
 #![tactic(auto)]
 
 mod driving;

@@ -1,4 +1,4 @@
-//! Observers, which look at each event of a run.
+//! Observers, which are called before and after each event of a run.
 ghost use Rattle.std.specs.Prelude.{ℕ, List, IfOk, OnOk, IfErr, ◌+◌};
 ghost use Rattle.scenario.specs.declared.event.Event.{Event};
 ghost use Rattle.scenario.specs.declared.setup.Setup.{Setup};
@@ -20,21 +20,21 @@ pub struct Observed<'a> {
 
 /// An observer of a run. It is called before and after each event, and may stop the run.
 pub trait Observer {
-    /// What the observer keeps of the state before an event until the event is done.
+    /// What the observer remembers of the state before an event, for the call after the event.
     type Note: Drop;
     /// Why the observer stops a run.
     type Stop: Drop;
 
-    /// What holds of an observer that has seen this number of a run's events.
+    /// The invariant of an observer that has seen this number of a run's events.
     ghost has_seen: { Self → Setup → List Event → ℕ → Type 0 };
 
-    /// What holds of a note about the event at an index.
+    /// The contract of a note about the event at an index.
     ghost notes: { Setup → List Event → ℕ → Self.Note → Type 0 };
 
-    /// What holds of an observer that stops at the event at an index, and of its reason.
+    /// The contract of an observer that stops at the event at an index, and of its reason.
     ghost stops: { Self → Setup → List Event → ℕ → Self.Stop → Type 0 };
 
-    /// Looks at an event that is about to be stepped.
+    /// Inspects an event that is about to be stepped.
     fn before(&self, at: Observed<'_>) -> Result<Self::Note, Self::Stop>
         requires at { IsBefore at.setup.now at.events.now at.index at.event at.state.now }
         requires seen { has_seen self.now at.setup.now at.events.now at.index }
@@ -42,7 +42,7 @@ pub trait Observer {
         ensures err { IfErr result
             (stops self.now at.entry.setup.now at.entry.events.now at.entry.index) };
 
-    /// Looks at an event that was stepped, with its undo record and the note from before it.
+    /// Inspects an event that was stepped, with its undo record and the note from before it.
     fn after(&mut self, at: Observed<'_>, past: &Record, note: Self::Note) -> Result<(), Self::Stop>
         requires at { IsAfter at.setup.now at.events.now at.index at.event past.now at.state.now }
         requires seen { has_seen self.old at.setup.now at.events.now at.index }

@@ -1,4 +1,4 @@
-//! Reading a run from the bytes of a script or a trace.
+//! Reads a run from the bytes of a script or a trace.
 ghost use Rattle.std.specs.Prelude.{◌≡◌, ◌≤◌, None, true, false, length, IfOk, IfErr};
 ghost use Rattle.scenario.specs.Setups.{setup_refusal};
 ghost use Rattle.runs.specs.Reading.{Startable, Reads, ReadsAs, IsUnread, IsUnreadAs};
@@ -63,7 +63,7 @@ impl Run {
         }
     }
 
-    /// The start of the run.
+    /// Returns the setup from which the run starts.
     pub fn setup(&self) -> &Setup
         ensures value { result.now ≡ self.now.setup }
         ensures starts { setup_refusal self.now.setup ≡ None }
@@ -74,7 +74,7 @@ impl Run {
         }
     }
 
-    /// The events of the run.
+    /// Returns the events of the run.
     pub fn events(&self) -> &[Event]
         ensures value { result.now ≡ self.now.schedule }
         ensures most { length self.now.schedule ≤ 1048576 }

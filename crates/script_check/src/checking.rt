@@ -1,4 +1,4 @@
-//! Checking a script.
+//! The `check` subcommand: writes what is wrong with a script.
 ghost use Rattle.std.specs.Prelude.{◌≡◌, ◌≤◌, None, length, IfOk, IfErr};
 ghost use Rattle.scenario.specs.Setups.{setup_refusal};
 ghost use Rattle.script_check.specs.Verdicts.{Ends, IsVerdict, IsOfOutput, IsUnreported};
@@ -29,7 +29,7 @@ fn write_text<W: Write>(
     Ok(())
 }
 
-// The line of an event that is refused in a state.
+// Returns the line that reports a refused event. `state` is the one before the event.
 fn refusal_text(
     alloc: Global,
     source: Source<'_>,
@@ -46,7 +46,7 @@ fn refusal_text(
     event_text(alloc, source, index, message.as_str())
 }
 
-// Runs some events from a setup, and returns how that ends.
+// Runs events from the start of a setup, writes the report, and returns the verdict.
 fn check_events<W: Write>(
     alloc: Global,
     source: Source<'_>,
@@ -76,7 +76,7 @@ fn check_events<W: Write>(
     }
 }
 
-// The same of a script's schedule.
+// Runs a script's schedule, writes the report, and returns the verdict.
 fn check_plan<W: Write>(
     alloc: Global,
     source: Source<'_>,
@@ -89,10 +89,10 @@ fn check_plan<W: Write>(
     check_events(alloc, source, script.setup(), script.schedule(), writer)
 }
 
-/// Reports what is wrong with a script, in a line each: the first fault of the text and some more
-/// after it, or of one that is read the first event of its schedule that is refused; or `ok`. The
-/// lines begin with the name. A text that is longer than a script may be gets no verdict: nothing
-/// of it is read, and nothing is written.
+/// Writes what is wrong with a script, or `ok`. For an invalid script, writes a line for each of at
+/// most 20 faults, beginning with its first fault. For a valid one, writes a line about the first
+/// event that is refused. These lines begin with `name`. A text of more than 8,388,608 bytes gets
+/// no verdict: it isn't read, and nothing is written.
 #[tactic(auto, using(crate::proofs::VerdictLemmas::verdict_of_plan, crate::proofs::VerdictLemmas::unreported))]
 pub fn check_script<W: Write>(
     alloc: Global,

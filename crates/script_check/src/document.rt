@@ -1,4 +1,4 @@
-//! The value at a path of a script.
+//! Finds the value at a path of a script, and quotes it.
 
 use crate::locating::key_word;
 use script::{Key, Path};
@@ -24,7 +24,7 @@ pub(crate) fn value_at(document: &Value, path: Path) -> Option<&Value> {
     }
 }
 
-/// The beginning of a text.
+/// Returns a text. If it has more than 60 characters, it is cut there and ends in two dots.
 pub(crate) fn cut(alloc: Global, text: &str) -> Result<String, AllocError> {
     let mut out = String::new(alloc);
     for (i, character) in text.chars().enumerate() {
@@ -37,7 +37,7 @@ pub(crate) fn cut(alloc: Global, text: &str) -> Result<String, AllocError> {
     Ok(out)
 }
 
-/// A value as JSON, in one line; of a long one the beginning.
+/// Returns a value as JSON in one line, cut after 60 characters.
 pub(crate) fn shown(alloc: Global, value: &Value) -> Result<String, AllocError> {
     let text = value.to_string(alloc)?;
     cut(alloc, text.as_str())

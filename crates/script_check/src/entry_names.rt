@@ -1,4 +1,4 @@
-//! Names of opcodes and flags in an entry, whose values must be numbers.
+//! Sentences about entries that name an opcode or a flag where a number is required.
 
 use crate::document::shown;
 use sentences::{Unmodelled, is_modelled, opcode_of_name};
@@ -36,7 +36,7 @@ pub(crate) fn odd_member(entry: &Value) -> Option<(&'static str, &Value)> {
     None
 }
 
-// Returns the flag of a name, in upper or lower case, with or without its prefix.
+// Returns the flag with a name, in upper or lower case, with or without its prefix.
 fn flag_of_name(name: &str) -> Option<u8> {
     let upper = name.strip_prefix("IOSQE_").unwrap_or(name);
     let bare = upper.strip_prefix("iosqe_").unwrap_or(upper);
@@ -48,7 +48,7 @@ fn flag_of_name(name: &str) -> Option<u8> {
     None
 }
 
-// Returns the flags of names that are joined by `|`.
+// Returns the flags whose names are joined by `|`.
 fn flags_of_names(names: &str) -> Option<u8> {
     let mut flags = 0;
     for name in names.split('|') {
@@ -57,7 +57,7 @@ fn flags_of_names(names: &str) -> Option<u8> {
     Some(flags)
 }
 
-// Returns the number that the names in a value stand for.
+// Returns the number of the opcode, or of the flags, that a value names.
 fn number_of(key: &str, value: &Value) -> Option<u8> {
     let names = value.as_str()?;
     match key {
@@ -67,8 +67,8 @@ fn number_of(key: &str, value: &Value) -> Option<u8> {
     }
 }
 
-/// Returns the sentence of a value that isn't a whole number: the number to write, if the value is
-/// a name.
+/// Returns the sentence about a value that isn't a whole number. If the value is a name, the
+/// sentence gives the number to write.
 pub(crate) fn odd_value(alloc: Global, key: &str, value: &Value) -> Result<String, AllocError> {
     let shown = shown(alloc, value)?;
     match number_of(key, value) {

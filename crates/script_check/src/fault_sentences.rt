@@ -1,4 +1,4 @@
-//! Sentences about the faults of a script: the value that is there, and what is allowed.
+//! Sentences about the faults of a script: the value found, and what is allowed.
 
 use crate::document::{shown, value_at};
 use crate::entry_names::{odd_member, odd_value};
@@ -22,7 +22,7 @@ const PIECE: &str = "a piece of memory is [address, \"hex\"], with two hex digit
 const DESCRIPTOR: &str =
     "a descriptor is a string: an object's name, for a pipe followed by :r or :w";
 
-// Returns the form of an instruction with a word.
+// Returns the form of an instruction, by its first word.
 fn instruction_of_word(word: &str) -> &'static str {
     match word {
         "put" => {
@@ -37,7 +37,7 @@ fn instruction_of_word(word: &str) -> &'static str {
     }
 }
 
-// Returns the form of an event with a word.
+// Returns the form of an event, by its first word.
 fn event_of_word(word: &str) -> &'static str {
     match word {
         "step" => "a step is [\"step\", thread]",
@@ -77,7 +77,7 @@ pub(crate) fn form_of_key(key: Key) -> &'static str {
     }
 }
 
-// Returns the form of an item of a key.
+// Returns the form of an item of the list at a key.
 fn form_of_item(key: Key) -> &'static str {
     match key {
         Key::Memory => PIECE,
@@ -97,7 +97,7 @@ fn form_of(path: Path, value: &Value) -> &'static str {
     }
 }
 
-// Returns the first key of an object that isn't one of an entry, or of an object of a script.
+// Returns the first unknown key of an entry, or of an object of a script.
 fn odd_key(value: &Value, is_entry: bool) -> Option<&str> {
     for key in value.as_object()?.keys() {
         let known = if is_entry {
@@ -130,7 +130,7 @@ fn odd_key_at(path: Path, value: &Value) -> Option<&str> {
     }
 }
 
-/// Returns whether a key isn't one of a script.
+/// Returns whether a script has no such key.
 pub(crate) fn is_unknown(key: &Value) -> bool {
     match key.as_str() {
         Some(word) => !is_script_key(word),
@@ -138,7 +138,7 @@ pub(crate) fn is_unknown(key: &Value) -> bool {
     }
 }
 
-/// Returns the sentence of an unknown key of a script.
+/// Returns the sentence about an unknown key of a script.
 pub(crate) fn unknown_key(alloc: Global, key: &Value) -> Result<String, AllocError> {
     let key = shown(alloc, key)?;
     format!(in alloc;
@@ -146,7 +146,7 @@ pub(crate) fn unknown_key(alloc: Global, key: &Value) -> Result<String, AllocErr
     )
 }
 
-// Returns the sentence of an unknown key of an entry, or of an object.
+// Returns the sentence about an unknown key of an entry, or of an object.
 fn unknown_inner_key(alloc: Global, path: Path, key: &str) -> Result<String, AllocError> {
     let key = shown(alloc, &Value::String(String::from_str(alloc, key)?))?;
     match path.key {
@@ -183,7 +183,7 @@ fn shape(alloc: Global, path: Path, value: Option<&Value>) -> Result<String, All
     format!(in alloc; "{found}, but {form}")
 }
 
-// Returns the limit of what a path names.
+// Returns the clause that states the limit at a path.
 fn most_of(path: Path) -> &'static str {
     match (path.key, path.item, path.inner) {
         (Key::Memory, _, _) => "a piece of memory has at most 65536",
@@ -197,7 +197,7 @@ fn most_of(path: Path) -> &'static str {
     }
 }
 
-// Returns the noun for what exceeds its limit.
+// Returns the noun for what exceeds the limit at a path.
 fn thing_of(path: Path) -> &'static str {
     match (path.key, path.item, path.inner) {
         (Key::Objects, None, _) => "objects",
@@ -209,12 +209,12 @@ fn thing_of(path: Path) -> &'static str {
     }
 }
 
-// Returns how many bytes a text of hex digits has.
+// Returns how many bytes some hex digits encode.
 fn bytes_of(text: Option<&Value>) -> Option<usize> {
     Some(text?.as_str()?.len() / 2)
 }
 
-// Returns how many of them there are.
+// Returns how many things exceed the limit at a path.
 fn count_of(path: Path, value: &Value) -> Option<usize> {
     match (path.key, path.item, path.inner) {
         (Key::Memory, Some(_), _) => bytes_of(value.get(1)),
@@ -234,7 +234,7 @@ fn limit(alloc: Global, path: Path, value: Option<&Value>) -> Result<String, All
     format!(in alloc; "{count} {things}, but {most}")
 }
 
-/// Returns the sentence of a fault of a script's JSON value.
+/// Returns the sentence about a fault of a script.
 pub(crate) fn sentence(
     alloc: Global,
     document: &Value,

@@ -1,4 +1,4 @@
-//! The faults of a script, key by key and item by item.
+//! Finds the faults of a script, key by key and item by item.
 ghost use Rattle.std.specs.Prelude.{◌<◌, ◌≤◌, ◌+◌, length, IfOk};
 
 use scenario::ring_size;
@@ -17,10 +17,10 @@ pub(crate) const MOST_FAULTS: usize = 20;
 /// The size of memory, in bytes.
 const MEMORY_SIZE: usize = 65536;
 
-/// The most entries that a ring has: a slot beyond them is outside of every ring.
+/// The largest size of a submission ring. Slots are checked against it where `entries` is faulty.
 const MOST_ENTRIES: u32 = 4096;
 
-/// The fewest: a completion ring has as many, whatever it has.
+/// The smallest size of a submission ring. `cq` is checked against it where `entries` is faulty.
 const FEWEST_ENTRIES: u32 = 1;
 
 const MOST_OBJECTS: usize = 32;
@@ -33,7 +33,7 @@ const MOST_INSTRUCTIONS: usize = 4096;
 
 const MOST_EVENTS: usize = 65536;
 
-// The faults that were found so far, in the order in which they are tested.
+// The faults found so far, in the order in which they are tested.
 #[derive(Drop)]
 struct Faults {
     alloc: Global,
@@ -51,7 +51,7 @@ impl Faults {
         Ok(())
     }
 
-    // Notes what is wrong with a key or an item, or gives what it is.
+    // Returns what was read of a key or an item. Adds the fault if it is faulty.
     fn note<T: Drop>(&mut self, read: Result<T, ScriptFault>) -> Result<Option<T>, AllocError> {
         match read {
             Ok(found) => Ok(Some(found)),
@@ -62,7 +62,7 @@ impl Faults {
         }
     }
 
-    // Returns the items of a list with at most `most` items, or none.
+    // Returns the items of a list. Adds a fault, and returns none, if there are more than `most`.
     fn limited<'a>(
         &mut self,
         path: Path,
@@ -78,7 +78,8 @@ impl Faults {
         Ok(items)
     }
 
-    // The same of the list at a key, where it is one.
+    // Returns the items of the list at a key. Adds a fault, and returns none, if it isn't a list or
+    // has more than `most`.
     fn list_at<'a>(
         &mut self,
         key: Key,
@@ -93,7 +94,7 @@ impl Faults {
         }
     }
 
-    // The same of a key that must be there.
+    // Does the same for a key that a script must have, and adds a fault if it is missing.
     fn required_list_at<'a>(
         &mut self,
         key: Key,
@@ -125,8 +126,8 @@ impl Faults {
         Ok(())
     }
 
-    // The objects before and one more; none where it is faulty, so that no name is held against
-    // its.
+    // Adds an object to the earlier ones. Returns no objects if it is faulty, so that no later name
+    // is compared with its name.
     fn next_objects<'a>(
         &mut self,
         objects: NamedObjects<'a>,
@@ -155,7 +156,8 @@ impl Faults {
         Ok(objects)
     }
 
-    // Notes descriptors that are no texts, and those that name nothing, if all objects are known.
+    // Adds a fault for each descriptor that isn't a string. If all objects are known, adds one also
+    // for each that names no object.
     fn note_descriptors(
         &mut self,
         objects: &NamedObjects<'_>,
@@ -209,8 +211,8 @@ impl Faults {
         Ok(())
     }
 
-    // Notes the faults of all keys. Where a key is unknown, it may be one that is missing,
-    // misspelled.
+    // Adds the faults of all keys. If some key is unknown, missing keys are not reported: it may be
+    // one of them, misspelled.
     fn note_keys(&mut self, document: &Value, are_known: bool) -> Result<(), AllocError> {
         let found = document.get("entries");
         let entries = if are_known || found.is_some() {
@@ -234,8 +236,8 @@ impl Faults {
     }
 }
 
-/// Returns the faults of a script, in the order in which they are tested, at most 20. It leaves out
-/// faults that depend on a key or an item which is faulty itself.
+/// Returns at most 20 faults of a script, in the order in which they are tested. Leaves out faults
+/// that depend on a faulty key or item.
 pub(crate) fn faults_of(alloc: Global, document: &Value) -> Result<Vec<ScriptFault>, AllocError> {
     let mut faults = Faults {
         alloc,

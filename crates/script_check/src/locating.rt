@@ -1,11 +1,11 @@
-//! Lines and columns in a JSON text.
+//! Finds the line and the column at which a value of a script begins.
 
 use crate::walk::{Begins, Walk, string_length};
 use script::{Key, Path};
 use serde_json::Value;
 use std::alloc::{AllocError, Global};
 
-/// A line and a column, both from 1 on. A column counts bytes, as `serde_json` does.
+/// A line and a column, both counted from 1. A column counts bytes, as in `serde_json`.
 #[derive(Clone, Copy)]
 pub(crate) struct Position {
     pub line: usize,
@@ -13,7 +13,7 @@ pub(crate) struct Position {
 }
 
 impl Position {
-    // Returns the position after a byte.
+    // Returns the next position, given the byte at this one.
     fn after(self, byte: u8) -> Position {
         if byte == b'\n' {
             Position {
@@ -50,7 +50,7 @@ pub(crate) fn offset_at(text: &[u8], line: usize, column: usize) -> usize {
     text.len()
 }
 
-/// The word of a key.
+/// Returns a key as a script spells it.
 pub(crate) fn key_word(key: Key) -> &'static str {
     match key {
         Key::Document => "document",
@@ -67,7 +67,7 @@ pub(crate) fn key_word(key: Key) -> &'static str {
     }
 }
 
-// Where the text's value begins.
+// Returns the offset at which the text's value begins, after white space.
 fn document_at(text: &[u8]) -> usize {
     for (at, byte) in text.iter().enumerate() {
         if !byte.is_ascii_whitespace() {
@@ -77,7 +77,7 @@ fn document_at(text: &[u8]) -> usize {
     0
 }
 
-// Where an item of a list begins.
+// Returns the offset of an item, given the offset of its list.
 fn item_at(text: &[u8], list: usize, number: u32) -> Option<usize> {
     let mut walk = Walk::new();
     let mut left = number;
@@ -96,7 +96,7 @@ fn item_at(text: &[u8], list: usize, number: u32) -> Option<usize> {
     None
 }
 
-// The key that begins at an offset.
+// Returns the key that begins at an offset, or null if there is no valid string.
 fn key_at(alloc: Global, text: &[u8], at: usize) -> Result<Value, AllocError> {
     let rest = &text[at.min(text.len())..];
     match Value::from_slice(alloc, &rest[..string_length(rest)]) {
@@ -110,7 +110,7 @@ fn key_at(alloc: Global, text: &[u8], at: usize) -> Result<Value, AllocError> {
     }
 }
 
-/// A member of the document, and where its key and its value begin.
+/// A member of the document, with the offsets at which its key and its value begin.
 #[derive(Drop)]
 pub(crate) struct Member {
     pub key: Value,
@@ -119,7 +119,7 @@ pub(crate) struct Member {
 }
 
 impl Member {
-    /// Whether it has a key.
+    /// Returns whether the member has this key.
     pub fn has(&self, word: &str) -> bool {
         match self.key.as_str() {
             Some(key) => key == word,
@@ -128,7 +128,7 @@ impl Member {
     }
 }
 
-/// The members of the object that a text is, in their order.
+/// Returns the members of the document, in order.
 pub(crate) fn members_of(alloc: Global, text: &[u8]) -> Result<Vec<Member>, AllocError> {
     let mut members: Vec<Member> = Vec::new(alloc);
     let mut walk = Walk::new();
@@ -151,14 +151,14 @@ pub(crate) fn members_of(alloc: Global, text: &[u8]) -> Result<Vec<Member>, Allo
     Ok(members)
 }
 
-// Says where the value of the last member begins.
+// Sets the offset of the last member's value.
 fn set_value(members: &mut Vec<Member>, at: usize) {
     if let Some(member) = members.last_mut() {
         member.value = at;
     }
 }
 
-// Where the value of a key begins: that of its last member, which counts.
+// Returns the offset of a key's value. Where a key is repeated, its last value counts.
 fn value_of(members: &[Member], word: &str) -> Option<usize> {
     let mut found = None;
     for member in members {
@@ -169,8 +169,8 @@ fn value_of(members: &[Member], word: &str) -> Option<usize> {
     found
 }
 
-/// Returns where the value at a path begins in the text of a script. Of a missing value it is where
-/// the object that should have it begins.
+/// Returns the offset of the value at a path. If there is none, returns the offset of the object or
+/// the list that should contain it.
 pub(crate) fn offset_of(text: &[u8], members: &[Member], path: Path) -> usize {
     let Some(value) = value_of(members, key_word(path.key)) else {
         return document_at(text);

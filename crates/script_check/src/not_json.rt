@@ -1,4 +1,4 @@
-//! Why a text isn't JSON, for the mistakes that are common in scripts written by hand.
+//! Explains why a text isn't JSON, for mistakes that are common in scripts written by hand.
 
 use crate::locating::{Position, offset_at, position_of};
 use crate::walk::string_length;
@@ -8,14 +8,14 @@ use std::alloc::{AllocError, Global};
 /// The bytes EF BB BF, with which some editors begin a UTF-8 file.
 const BYTE_ORDER_MARK: [u8; 3] = [0xef, 0xbb, 0xbf];
 
-/// What isn't JSON, and where it begins.
+/// A mistake, and the offset at which it begins.
 #[derive(Clone, Copy)]
 struct Mistake {
     offset: usize,
     reason: &'static str,
 }
 
-// Returns the offset after the letters, digits and signs from an offset on.
+// Returns the end of a word that begins at an offset: letters, digits, signs and points.
 fn end_of_word(text: &[u8], offset: usize) -> usize {
     for at in offset..text.len() {
         if !matches!(text[at], b'a'..=b'z' | b'A'..=b'Z' | b'0'..=b'9' | b'+' | b'-' | b'.') {
@@ -25,7 +25,7 @@ fn end_of_word(text: &[u8], offset: usize) -> usize {
     text.len()
 }
 
-// Returns the offset after the spaces from an offset on.
+// Returns the end of the white space at an offset.
 fn end_of_spaces(text: &[u8], offset: usize) -> usize {
     for at in offset..text.len() {
         if !text[at].is_ascii_whitespace() {
@@ -35,8 +35,8 @@ fn end_of_spaces(text: &[u8], offset: usize) -> usize {
     text.len()
 }
 
-// Returns the offset of a comment where the reader stops at an offset. It stops at the start of a
-// key, a number or a literal that a comment follows.
+// Returns the offset at which a comment may begin, given where the parser stopped. If a comment
+// follows a key, a number or a literal, the parser stops at the start of that.
 fn comment_at(text: &[u8], stop: usize) -> usize {
     let Some(rest) = text.get(stop..) else {
         return stop;
@@ -55,7 +55,7 @@ fn is_comment(text: &[u8], offset: usize) -> bool {
     }
 }
 
-// Returns the offset of the last byte before an offset that isn't a space.
+// Returns the offset of the last byte before an offset that isn't white space.
 fn last_before(text: &[u8], offset: usize) -> Option<usize> {
     let mut found = None;
     for at in 0..offset.min(text.len()) {
@@ -66,7 +66,7 @@ fn last_before(text: &[u8], offset: usize) -> Option<usize> {
     found
 }
 
-// Returns the comma directly before the bracket at an offset.
+// Returns the comma directly before the closing bracket at an offset, as a mistake.
 fn trailing_comma(text: &[u8], offset: usize) -> Option<Mistake> {
     let reason = match text.get(offset) {
         Some(b']') => "a comma before ] has no item after it",
@@ -83,7 +83,7 @@ fn trailing_comma(text: &[u8], offset: usize) -> Option<Mistake> {
     }
 }
 
-// Returns the mistake in a text whose reader stopped at an offset, if it is a common one.
+// Returns the mistake in a text, given where the parser stopped, if it is a common one.
 fn mistake_in(text: &[u8], stop: usize) -> Option<Mistake> {
     if text.starts_with(&BYTE_ORDER_MARK) {
         return Some(Mistake {
@@ -101,7 +101,7 @@ fn mistake_in(text: &[u8], stop: usize) -> Option<Mistake> {
     trailing_comma(text, stop)
 }
 
-/// Returns the line of a text that isn't JSON, by the error of its reader.
+/// Returns the line that reports a text that isn't JSON, given the parser's error.
 pub(crate) fn no_json(
     alloc: Global,
     name: &str,

@@ -1,4 +1,4 @@
-//! Sentences about numbers that are out of their range, and unknown names.
+//! Sentences about numbers out of their range, and about unknown, invalid or repeated names.
 
 use crate::document::{shown, value_at};
 use crate::fault_sentences::{form_of_key, word_of};
@@ -11,13 +11,13 @@ use std::alloc::{AllocError, Global};
 /// The largest size of a submission ring.
 const MOST_ENTRIES: u32 = 4096;
 
-/// The range of descriptors. Negative ones name none.
+/// The range of an entry's descriptor. A negative number names no file.
 const DESCRIPTORS: &str = "-2147483648 to 2147483647";
 
-/// The largest counter of an eventfd.
+/// The largest counter of an eventfd (eventfd(2)).
 const LARGEST_COUNTER: u64 = 18446744073709551614;
 
-/// The keys of an entry with their largest number, except fd, which is signed.
+/// The keys of an entry, each with its largest number. `fd` is not among them: it is signed.
 const ENTRY_KEYS: [(&str, u64); 8] = [
     ("op", 255),
     ("flags", 255),
@@ -29,7 +29,7 @@ const ENTRY_KEYS: [(&str, u64); 8] = [
     ("ud", u64::MAX),
 ];
 
-// Returns a number of a script if it is in its range.
+// Returns a value if it is a number from `low` to `high`.
 fn number_within(value: Option<&Value>, low: u64, high: u64) -> Option<u64> {
     let number = value?.as_u64()?;
     if low <= number && number <= high {
@@ -39,7 +39,7 @@ fn number_within(value: Option<&Value>, low: u64, high: u64) -> Option<u64> {
     }
 }
 
-// Returns a script's number of entries, if it is in its range.
+// Returns the number of entries of the submission ring, if it is in its range.
 fn entries_of(document: &Value) -> Option<u32> {
     let entries = number_within(document.get("entries"), 1, 4096)?;
     u32::try_from(entries).ok()
@@ -61,7 +61,7 @@ fn completion_ring(alloc: Global, document: &Value, cq: &Value) -> Result<String
     }
 }
 
-// Returns what is wrong with an object's name, if its number is right.
+// Returns the sentence about an object's name, which is missing, invalid or repeated.
 fn name(alloc: Global, object: &Value) -> Result<String, AllocError> {
     let Some(name) = object.get("name") else {
         return String::from_str(alloc, "it has no name");
@@ -76,7 +76,7 @@ fn name(alloc: Global, object: &Value) -> Result<String, AllocError> {
     }
 }
 
-// Returns what is wrong with an object: its number, or its name.
+// Returns the sentence about an object's capacity, counter or name.
 fn object(alloc: Global, object: &Value) -> Result<String, AllocError> {
     if let Some(capacity) = object.get("pipe") {
         if number_within(Some(capacity), 1, 65536).is_none() {
@@ -95,7 +95,7 @@ fn object(alloc: Global, object: &Value) -> Result<String, AllocError> {
     name(alloc, object)
 }
 
-// Returns what is wrong with an entry's numbers.
+// Returns the sentence about the first number of an entry that is out of its range.
 fn entry(alloc: Global, entry: &Value) -> Result<String, AllocError> {
     for (key, most) in ENTRY_KEYS {
         if let Some(number) = entry.get(key) {
@@ -114,7 +114,7 @@ fn entry(alloc: Global, entry: &Value) -> Result<String, AllocError> {
     }
 }
 
-// Returns what is wrong with a put: its slot, or its entry.
+// Returns the sentence about a put's slot, or about its entry.
 fn put(
     alloc: Global,
     document: &Value,
@@ -136,7 +136,7 @@ fn put(
     }
 }
 
-// Returns the ranges of an instruction or an event with a word.
+// Returns the ranges of the numbers in an instruction or an event, by its first word.
 fn range_of_word(word: &str) -> &'static str {
     match word {
         "store" => "its bytes must be within addresses 0 to 65535",
@@ -147,7 +147,7 @@ fn range_of_word(word: &str) -> &'static str {
     }
 }
 
-// Returns what is wrong with an instruction or an event.
+// Returns the sentence about an instruction or an event.
 fn words(alloc: Global, document: &Value, value: &Value) -> Result<String, AllocError> {
     let word = word_of(value);
     if word == "put" {
@@ -160,7 +160,7 @@ fn words(alloc: Global, document: &Value, value: &Value) -> Result<String, Alloc
     format!(in alloc; "{value_text}, but {needed}")
 }
 
-// Returns the sentence of a key with a number.
+// Returns the sentence about the number at a key.
 fn number(alloc: Global, key: Key, value: &Value) -> Result<String, AllocError> {
     let value_text = shown(alloc, value)?;
     let form = form_of_key(key);
@@ -179,7 +179,7 @@ fn descriptor(alloc: Global, value: &Value) -> Result<String, AllocError> {
     )
 }
 
-/// Returns the sentence of a value that is out of its range.
+/// Returns the sentence about the value at a path, which is out of its range.
 pub(crate) fn range(alloc: Global, document: &Value, path: Path) -> Result<String, AllocError> {
     let Some(value) = value_at(document, path) else {
         return String::from_str(alloc, "it is missing");

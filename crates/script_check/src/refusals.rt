@@ -12,7 +12,7 @@ use std::alloc::{AllocError, Global};
 /// The most rows of a run.
 const MOST_ROWS: u32 = 65536;
 
-/// The bits of a ring's word.
+/// The bits of a ring's head or tail, which wrap around at 32 bits.
 const WORD: u64 = 0xffff_ffff;
 
 type Wording = Result<String, AllocError>;
@@ -25,7 +25,7 @@ fn row_at(state: &State, number: u32) -> Option<Row> {
     }
 }
 
-// Returns the number in a place, or 0 if it has none.
+// Returns the number in a place, or 0 if there is none.
 fn number_at(state: &State, place: Place) -> u64 {
     match state.value(place) {
         Some(Value::Number(number)) => number,
@@ -52,7 +52,8 @@ fn completions_waiting(state: &State) -> u64 {
     waiting(state, Place::CompletionHead, Place::CompletionTail)
 }
 
-// Returns what adds completions to the ring. While the backlog has some, new ones are added to it.
+// Returns the clause that says how completions get into the ring. While the backlog has some, new
+// ones are added to the backlog.
 fn remedy_for_completions(state: &State) -> &'static str {
     if number_at(state, Place::SubmissionFlags) & IORING_SQ_CQ_OVERFLOW as u64 == 0 {
         "requests must complete first"
@@ -115,9 +116,11 @@ fn too_many(alloc: Global) -> Wording {
 }
 
 fn no_such_row(alloc: Global, state: &State) -> Wording {
-    let rows = Counted::rows(u64::from(row_count(state)));
+    let count = row_count(state);
+    let verb = if count == 1 { "is" } else { "are" };
+    let rows = Counted::rows(u64::from(count));
     format!(in alloc;
-        "there is no such row: rows are numbered from 0 as entries are submitted, and so far there are {rows}"
+        "there is no such row: rows are numbered from 0 as entries are submitted, and so far there {verb} {rows}"
     )
 }
 
@@ -139,7 +142,8 @@ fn wrong_phase(alloc: Global, name: RowName, row: &Row, event: Event) -> Wording
     }
 }
 
-// Returns that a row has completed, with its result; of an opcode that isn't modelled, also that.
+// Returns the sentence that a row has completed, with its result. It names an opcode that isn't
+// modelled.
 fn completed(alloc: Global, name: RowName, row: &Row, res: i32) -> Wording {
     let result = ResultName(res);
     let opcode = row.entry.opcode;
@@ -256,7 +260,7 @@ fn reason(alloc: Global, state: &State, setup: &Setup, event: Event, refusal: Re
     }
 }
 
-/// Returns the sentence of an event that is refused in a state.
+/// Returns the sentence about an event that a state refuses.
 pub(crate) fn sentence(
     alloc: Global,
     state: &State,

@@ -16,7 +16,7 @@ pub(crate) struct Source<'a> {
     pub text: &'a [u8],
 }
 
-// Lines, and how many they are.
+// The lines of a report, and their number.
 #[derive(Drop)]
 struct Lines {
     alloc: Global,
@@ -24,7 +24,7 @@ struct Lines {
     count: usize,
 }
 
-// Returns the text of a path: its key, and its indexes.
+// Returns a path as text, such as `threads 0 3`: its key and its indexes.
 fn path_text(alloc: Global, path: Path) -> Result<String, AllocError> {
     let word = key_word(path.key);
     match (path.item, path.inner) {
@@ -43,7 +43,7 @@ impl Lines {
         }
     }
 
-    // Adds a line about a path, and about the value at an offset, unless there are enough lines.
+    // Adds a line about a path, with the line and the column of an offset, unless there are 20.
     fn add(
         &mut self,
         source: Source<'_>,
@@ -64,7 +64,7 @@ impl Lines {
         self.out.push_str(message.as_str())
     }
 
-    // Adds a line for each key of the document that a script may not have.
+    // Adds a line for each unknown key of the document.
     fn add_unknown_keys(
         &mut self,
         source: Source<'_>,
@@ -125,7 +125,7 @@ fn fault_lines(
     Ok(out)
 }
 
-/// The lines of a script's faults, of which the first is known.
+/// Returns the lines that report a script's faults, beginning with `first`.
 pub(crate) fn faults_text(
     alloc: Global,
     source: Source<'_>,
@@ -142,7 +142,7 @@ pub(crate) fn faults_text(
     }
 }
 
-/// The line of an event of the schedule.
+/// Returns the line of a sentence about an event of the schedule.
 pub(crate) fn event_text(
     alloc: Global,
     source: Source<'_>,

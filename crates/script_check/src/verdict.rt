@@ -1,4 +1,4 @@
-//! Verdicts on scripts.
+//! The verdict of `check` on a script.
 
 use machine::Refusal;
 use script::ScriptFault;
@@ -6,10 +6,10 @@ use script::ScriptFault;
 /// The verdict on a script.
 #[derive(Clone, Copy)]
 pub enum Verdict {
-    /// It is read, and its whole schedule runs.
+    /// The script is valid, and every event of its schedule is accepted.
     Fine,
-    /// It isn't read: its first fault.
+    /// The script is invalid, with this first fault.
     Faulty(ScriptFault),
-    /// It is read, and the event at this index is the first that is refused, and why.
+    /// The script is valid. The event at this index is the first that is refused, for this reason.
     Refused(u32, Refusal),
 }

@@ -1,13 +1,13 @@
-//! Walking over the parts of a list or an object in a JSON text.
+//! Scans a list or an object in a JSON text byte by byte, to find where each part of it begins.
 ghost use Rattle.std.specs.Prelude.{◌≤◌, length};
 
-/// What a byte within a list or an object belongs to.
+/// Whether a scan is inside a string.
 #[derive(Clone, Copy)]
 enum Within {
-    /// No string.
+    /// Outside of strings.
     Plain,
     String,
-    /// A string, after a backslash.
+    /// In a string, after a backslash.
     Escape,
 }
 
@@ -15,19 +15,19 @@ enum Within {
 #[derive(Clone, Copy)]
 pub(crate) enum Begins {
     Nothing,
-    /// An item of a list; of an object a key or a value, in turn.
+    /// An item of a list, or a key or a value of an object.
     Part,
     /// The end of the list or the object.
     End,
 }
 
-/// How far a list or an object was read, after its opening bracket.
+/// A scan of a list or an object. It begins after the opening bracket.
 #[derive(Clone, Copy)]
 pub(crate) struct Walk {
-    /// How many lists and objects inside are open.
+    /// How many nested lists and objects are open.
     depth: usize,
     within: Within,
-    /// Whether a part has begun that hasn't ended.
+    /// Whether the current part has begun.
     begun: bool,
 }
 
@@ -40,7 +40,7 @@ impl Walk {
         }
     }
 
-    // Reads a byte of a part.
+    // Reads a byte within a part.
     fn read_inside(&mut self, byte: u8) {
         match (self.within, byte) {
             (Within::Escape, _) => self.within = Within::String,
@@ -54,7 +54,7 @@ impl Walk {
         }
     }
 
-    // Reads a byte between the parts, or of one that is no string and has no bracket open.
+    // Reads a byte outside of strings and of nested lists and objects.
     fn read_outside(&mut self, byte: u8) -> Begins {
         match byte {
             b' ' | b'\t' | b'\r' | b'\n' => Begins::Nothing,
@@ -72,7 +72,7 @@ impl Walk {
         }
     }
 
-    /// Reads the next byte, and returns what begins there.
+    /// Reads the next byte, and returns what begins at it.
     pub fn read(&mut self, byte: u8) -> Begins {
         if self.depth == 0 && matches!(self.within, Within::Plain) {
             return self.read_outside(byte);
@@ -82,7 +82,8 @@ impl Walk {
     }
 }
 
-/// The length of the string that some bytes begin with, both quotes with it.
+/// Returns the length of the string at the start of some bytes, with both quotes. Returns the
+/// number of bytes if the string has no end.
 pub(crate) fn string_length(bytes: &[u8]) -> usize
     ensures { result ≤ length bytes.now }
 {

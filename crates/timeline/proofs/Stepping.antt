@@ -1,4 +1,4 @@
--- The events of a range, one more at a time.
+-- The collected events of a range, extended by one event.
 use Rattle.std.proofs.Common.{◌≡◌, ℕ, ◌+◌, Bool, true, false, refl, sym, ap, ◌∙◌, subst, List, [], ◌∷◌, ◌++◌, map, add-one, append-nil}
 use Rattle.std.specs.Prelude.{string_bytes}
 use Rattle.std.proofs.lemmas.Simd.{map-map}
@@ -19,7 +19,7 @@ use Rattle.run_log.specs.Ranges.{has}
 use Rattle.timeline.specs.declared.parts.StepPart.{StepPart}
 use Rattle.timeline.specs.Steps.{shown_line, IsStep, StepsIf, AreSteps}
 
--- A step by its changes, which are the listing of its exact undo record.
+-- A collected event is right if its lines show the listing of its exact undo record.
 pub is_step : (s : Setup) (es : List Event) (i : ℕ) (e : Event) (past : List Change) (m : Machine) (listed : List Changed) (texts : List (List ℕ)) (x : StepPart)
     → IsAfter s es i e past m → NamesOnce past → IsListing (view m) past listed → texts ≡ map (change_text s) (rows listed)
     → string_bytes x.event ≡ event_text e → map (λ text. string_bytes text) x.changes.items ≡ map shown_line texts → IsStep s es i x
@@ -35,12 +35,12 @@ is_step s es i e past m listed texts x a once listing lines words shown = record
   lines = shown ∙ ap (map shown_line) lines ∙ map-map shown_line (change_text s) (rows listed);
 }
 
--- An event that is in the range.
+-- An event in the range is collected.
 pub steps_more : (s : Setup) (es : List Event) (r : EventRange) (i : ℕ) (xs ys : List StepPart) (x : StepPart) → has r i ≡ true → ys ≡ xs ++ x ∷ [] → IsStep s es i x → AreSteps s es r i xs → AreSteps s es r (i + 1) ys
 steps_more s es r i xs ys x h e step before =
     subst (λ n. AreSteps s es r n ys) (sym (add-one i)) (xs, x ∷ [], e, subst (λ b. StepsIf b s es i (x ∷ [])) (sym h) (x, refl, step), before)
 
--- An event that isn't in the range.
+-- An event outside of the range is not collected.
 pub steps_same : (s : Setup) (es : List Event) (r : EventRange) (i : ℕ) (xs : List StepPart) → has r i ≡ false → AreSteps s es r i xs → AreSteps s es r (i + 1) xs
 steps_same s es r i xs h before =
     subst (λ n. AreSteps s es r n xs) (sym (add-one i)) (xs, [], sym (append-nil xs), subst (λ b. StepsIf b s es i []) (sym h) refl, before)

@@ -1,4 +1,4 @@
--- Which runs are drawn, and what of them.
+-- Which runs `timeline` draws, and what a picture shows of them.
 use Rattle.std.specs.Prelude.{◌≡◌, ℕ, ◌&&◌, ◌||◌, nat_lt, nat_eq, not, is_some, List, codes, length, Bool, true, false, if◌then◌else◌, Option, Some, None}
 use Rattle.std.specs.List.{ends_with}
 use Rattle.scenario.specs.declared.event.Event.{Event}
@@ -24,7 +24,7 @@ use Rattle.timeline.specs.declared.drawing.Window.{Window}
 use Rattle.timeline.specs.declared.observing.Seen.{Seen}
 use Rattle.timeline.specs.Steps.{AreSteps}
 
--- The picture that a file holds, by its name.
+-- The format of a picture, by the name of its file.
 abbrev pub picture_of : List ℕ → Option Picture
 picture_of path =
     if ends_with nat_eq path (codes ".html") then Some Page
@@ -36,8 +36,8 @@ is_long count w = nat_lt 5000 count && (not (is_some w.from) || not (is_some w.t
 
 -- ---- one run
 
--- What a picture shows of a run, none of whose events is refused: its occupancy and the lifetimes of
--- its requests, the events in a range with what each changed, and all findings.
+-- What a picture shows of a run, none of whose events is refused: its occupancy, the lifetimes of
+-- its requests, the events in a range with their changes, and all findings.
 pub record IsSeen (s : Setup) (es : List Event) (r : EventRange) (x : Seen) : Type 0 where
   pub runs : Accepts (start s) es
   pub followed : IsFollowed s es r.from x.followed
@@ -58,8 +58,8 @@ Stops s es Write = ⊥
 Stops s es (Script f) = ⊥
 Stops s es (Trace f) = ⊥
 
--- A picture of a run that isn't too long, none of whose events is refused, or the number of events of
--- a run that is too long.
+-- The result of drawing a run. A run that is too long gives its number of events. Any other gives
+-- the bytes of its picture, and none of its events is refused.
 abbrev pub Draws : Setup → List Event → Window → Drawing → Type 0
 Draws s es w (Bytes bytes) = (is_long (length es) w ≡ false) × Accepts (start s) es
 Draws s es w (TooLong n) = (n ≡ length es) × (is_long (length es) w ≡ true)

@@ -1,4 +1,4 @@
--- The events of a part of a run, with what each changed, as a picture shows them.
+-- How a picture shows the events of a part of a run, with the changes of each.
 use Rattle.std.specs.Prelude.{◌≡◌, ℕ, zero, suc, ◌+◌, ◌++◌, nat_le, List, [], ◌∷◌, codes, length, map, take, slice_get, string_bytes, Bool, true, false, if◌then◌else◌, Some}
 use Rattle.std.specs.Str.Lossy.{utf8_lossy}
 use Rattle.places.specs.declared.value.Change.{Change}
@@ -15,15 +15,15 @@ use Rattle.run_log.specs.Listings.{IsListing}
 use Rattle.run_log.specs.Ranges.{has}
 use Rattle.timeline.specs.declared.parts.StepPart.{StepPart}
 
--- A line as it is drawn: bytes that are no UTF-8 are replaced by U+FFFD, and what follows the first
--- 400 bytes by two dots.
+-- A line as it is drawn. Invalid UTF-8 is replaced by U+FFFD, and all after the first 400 bytes by
+-- two dots.
 abbrev pub shown_line : List ℕ → List ℕ
 shown_line line =
     if nat_le (length line) 400 then utf8_lossy line
     else utf8_lossy (take 400 line) ++ codes ".."
 
--- Event i in the words of a schedule, with the lines of its changes. They list each place of its
--- exact undo record once.
+-- Event i in the words of a schedule, with the lines of its changes. The lines list each place of
+-- its exact undo record once.
 pub record IsStep (s : Setup) (es : List Event) (i : ℕ) (x : StepPart) : Type 0 where
   pub event : Event
   pub there : slice_get es i ≡ Some event
@@ -36,12 +36,12 @@ pub record IsStep (s : Setup) (es : List Event) (i : ℕ) (x : StepPart) : Type 
   pub lines : map (λ text. string_bytes text) x.changes.items
       ≡ map (λ row. shown_line (change_text s row)) (rows listed)
 
--- An event as a list of one, or nothing if it isn't in the range.
+-- A list of the event, or an empty list if it isn't in the range.
 abbrev pub StepsIf : Bool → Setup → List Event → ℕ → List StepPart → Type 0
 StepsIf true s es i xs = (x : StepPart) × (xs ≡ x ∷ []) × IsStep s es i x
 StepsIf false s es i xs = xs ≡ []
 
--- Those of the first n events that are in the range, in their order.
+-- The events in the range, among the first n of the run, in order.
 abbrev pub AreSteps : Setup → List Event → EventRange → ℕ → List StepPart → Type 0
 AreSteps s es r zero xs = xs ≡ []
 AreSteps s es r (suc n) xs =

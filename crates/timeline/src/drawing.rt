@@ -12,7 +12,7 @@ use run_log::EventRange;
 use runs::{ReportFault, read_run};
 use std::alloc::{AllocError, Global};
 
-/// How many events are drawn if an end of the window is left out.
+/// The most events of a run that is drawn without both ends of a window.
 const MOST_EVENTS: usize = 5000;
 
 /// The format of a picture.
@@ -40,7 +40,7 @@ pub enum Drawing {
     TooLong(u32),
 }
 
-// Returns whether a path ends in a text.
+// Returns whether a path ends with a text.
 fn ends_in(path: &str, text: &str) -> bool
     ensures { result ≡ ends_with nat_eq path.now text.now }
 {
@@ -68,7 +68,7 @@ fn is_long(count: usize, window: Window) -> bool
     count > MOST_EVENTS && (window.from.is_none() || window.to.is_none())
 }
 
-// Returns the events of a window over `count` events.
+// Returns the events of a window, without those past the end of a run of `count` events.
 fn range_of(count: u32, window: Window) -> EventRange {
     let to = window.to.unwrap_or(count).min(count);
     EventRange {
@@ -84,7 +84,7 @@ fn bytes_of(alloc: Global, picture: Picture, drawn: Drawn<'_>) -> Result<Vec<u8>
     }
 }
 
-// Steps some events from a setup, and draws those in the window.
+// Steps events from the start of a setup, and draws those in the window.
 fn draw_events(
     alloc: Global,
     name: &str,
@@ -113,8 +113,8 @@ fn draw_events(
     Ok(Drawing::Bytes(bytes_of(alloc, picture, drawn)?))
 }
 
-/// Draws the run of a trace if the first byte is a `U`, otherwise of a script. The picture has the
-/// run's name.
+/// Draws the run of a trace if the first byte is `U`, otherwise the run of a script. The picture
+/// names the run by `name`.
 pub fn draw_run(
     alloc: Global,
     name: &str,

@@ -1,11 +1,11 @@
-//! Findings, as a picture marks them.
+//! Selects the findings that a picture marks.
 
 use crate::parts::FindingPart;
 use explanations::Report;
 use std::alloc::{AllocError, Global};
 
-// Returns whether a finding is in a part of a run: at one of its events, or at the end if the part
-// ends there.
+// Returns whether a finding is in a part of a run of `count` events: at one of its events, or at
+// the end of the run if the part ends there.
 fn is_within(moment: u32, from: u32, to: u32, count: u32) -> bool {
     from <= moment && (moment < to || moment == to && to == count)
 }

@@ -75,7 +75,7 @@ fn observers_of<K: StagesMoment + Ranged>(
     })
 }
 
-// Returns the reports of what was found.
+// Returns the findings with their sentences.
 fn reports_of_found(
     alloc: Global,
     setup: &Setup,
@@ -95,7 +95,7 @@ fn reports_of_found(
     reports_of(alloc, &run)
 }
 
-// Returns what the observers have seen of a whole run.
+// Returns what the observers have collected over a whole run.
 fn seen_of<K: StagesMoment + Ranged>(
     alloc: Global,
     setup: &Setup,

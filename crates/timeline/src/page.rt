@@ -1,4 +1,4 @@
-//! The page around its data: HTML, style and script in one file that needs no network.
+//! The text of a page before and after its data: HTML, style and script, which need no network.
 
 /// The page before the data.
 pub(crate) const HEAD: &str = r##"<!doctype html>
@@ -64,7 +64,7 @@ svg .queued { fill: var(--back); stroke-width: 1.6; }
 svg .graph { fill: var(--fill); fill-opacity: .3; stroke: var(--fill); stroke-width: 1.4; }
 svg .link { fill: none; stroke: var(--link); stroke-width: 1.5; }
 svg .hard { stroke-width: 3; }
-svg .guard { stroke-dasharray: 2 3; }
+svg .timeout { stroke-dasharray: 2 3; }
 svg .cancel { stroke-dasharray: 6 3; }
 svg .picked { fill: var(--pick); fill-opacity: .12; stroke: var(--pick); stroke-opacity: .6; }
 svg .chosen { fill: none; stroke: var(--pick); stroke-width: 1.5; }
@@ -85,7 +85,7 @@ svg .note { fill: var(--back); stroke: var(--faint); stroke-width: 1.6; }
 </form>
 </header>
 <main id="view" tabindex="0" role="application" aria-label="Timeline of the run" aria-describedby="about" aria-activedescendant="picked"><div id="room"><svg id="picture" role="img" aria-label="Lanes of the run"></svg></div></main>
-<aside id="told" aria-live="polite"><noscript>A script in this file draws the timeline: allow it to run. It needs no network.</noscript></aside>
+<aside id="details" aria-live="polite"><noscript>A script in this file draws the timeline: allow it to run. It needs no network.</noscript></aside>
 <script type="application/json" id="run">
 "##;
 
@@ -96,10 +96,10 @@ pub(crate) const TAIL: &str = r##"
 'use strict';
 const run = JSON.parse(document.getElementById('run').textContent);
 const by_id = (id) => document.getElementById(id);
-const view = by_id('view'), picture = by_id('picture'), room = by_id('room'), told = by_id('told');
+const view = by_id('view'), picture = by_id('picture'), room = by_id('room'), details = by_id('details');
 
-// Sizes in pixels, and how many moments are ticked off apart.
-const LABELS = 196, AXIS = 40, LANE = 24, GRAPH = 40, CLOCK = 32, ROW = 22, BEHIND = 90, MOST_COLUMN = 64;
+// Sizes in pixels, and the distances in moments that the ticks of the axis may have.
+const LABELS = 196, AXIS = 40, LANE = 24, GRAPH = 40, CLOCK = 32, ROW = 22, MARGIN = 90, MOST_COLUMN = 64;
 const APART = [1, 2, 5].flatMap((n) => [1, 10, 100, 1e3, 1e4, 1e5].map((power) => n * power)).sort((a, b) => a - b);
 const from = run.from, to = run.to, findings = run.findings;
 
@@ -111,7 +111,7 @@ const ENDINGS = {
   good: 'completed', short: 'completed short', bad: 'completed with an error', canceled: 'canceled (-125)',
   expired: 'timed out (-62)', open: 'not completed',
 };
-const TIES = {'': 'link', hard: 'hard link', guard: 'linked timeout', cancel: 'completed by another row'};
+const TIES = {'': 'link', hard: 'hard link', timeout: 'linked timeout', cancel: 'completed by another row'};
 const FLAGS = {2: 'IO_DRAIN', 4: 'IO_LINK', 8: 'IO_HARDLINK', 16: 'ASYNC'};
 const DRAIN = 2, HARDLINK = 8, TRANSFERS = [22, 23];
 
@@ -124,7 +124,7 @@ const titled = (text) => element('title', {}, plain(text));
 const small = (x, y, text, anchor = 'start') => element('text', {class: 'small', x, y, 'text-anchor': anchor}, plain(text));
 const rect = (kind, x, y, width, height, inner = '') => element('rect', {class: kind, x, y, width, height}, inner);
 
-// ---- what the data says
+// ---- reading the data
 
 // A line of the log is 'PLACE OLD -> NEW', and the first word of a place says how many words it
 // has.
@@ -141,7 +141,8 @@ function lane_key(word, number) {
   return word === 'tick' ? 'clock' : 'row ' + number;
 }
 
-// Returns what a step of a thread did, by its program.
+// Returns the instruction that a step of a thread executed, and whether the thread began or stopped
+// waiting.
 function instruction(number, changes) {
   const stage = changes.find((it) => it.place === 'stage ' + number);
   if (stage?.now.startsWith('waiting')) return 'enter, starts to wait';
@@ -180,14 +181,13 @@ function spans(first, place, holds) {
   return found;
 }
 
-// Returns the row before one in its chain. A linked timeout follows its target, and is no link of the
-// chain.
+// Returns the row before this one in its chain, or null. A linked timeout is no link of a chain.
 function linked_before(row) {
   const other = rows.get(row.row - 1), before = other && other.target !== null ? rows.get(other.target) : other;
   return row.target === null && before?.unit === row.unit ? before : null;
 }
 
-// Returns the rows that completed by an event of another row: a cancel, a linked timeout, or a
+// Returns the rows that an event of another row completed: a cancel, a linked timeout, or a
 // completion that a timeout counts.
 function causes() {
   const ended = new Map(), found = [];
@@ -233,8 +233,8 @@ const arrows = causes();
 
 let column = 24, event_picked = from, lane_chosen = 0, pointed = null;
 
-// Returns the x of a moment, and of the middle of the event before it, at which what holds at the
-// moment begins.
+// Return the x of a moment, and the x at which a period begins or ends at that moment: the middle
+// of the event before it.
 const x_of = (moment) => LABELS + (moment - from) * column - view.scrollLeft;
 const x_since = (moment) => x_of(moment) - (moment > from ? column / 2 : 0);
 const x_until = (moment) => (moment === null || moment > to ? x_of(to) : x_since(moment));
@@ -245,7 +245,8 @@ function step_title(step) {
   return titled([`${step.index} ${step.text}${step.did ? ': ' + step.did : ''}`, ...lines, ...more].join('\n'));
 }
 
-// Marks about a point: what a thread does by the instruction, all else round or a bar.
+// The shapes of marks around a point. A step of a thread has the shape of its instruction. Every
+// other event is round or a bar.
 const SHAPES = {
   put: (x, y, r) => `M${x - r} ${y - r}h${2 * r}v${2 * r}h${-2 * r}z`,
   push: (x, y, r) => `M${x} ${y - r - 1}L${x + r + 1} ${y + r}H${x - r - 1}z`,
@@ -275,8 +276,8 @@ function mark(step, y) {
 // Faults are drawn over notes.
 const marked = [...findings].sort((one, other) => one.fault - other.fault);
 
-// Returns the event at which a finding is shown: that at its moment, or the last one for what holds
-// at the end.
+// Returns the event at which a finding is shown: the one at its moment, or the last event for a
+// finding at the end of the run.
 const event_of = (it) => Math.min(it.moment, Math.max(from, to - 1));
 
 function axis(low, high) {
@@ -346,7 +347,7 @@ function ties(y_of, low, high) {
       const hard = before.flags & HARDLINK ? 'hard' : '', x = x_until(before.ended);
       tie(hard, before, row, x, Math.max(x, x_until(row.issued ?? row.ended)), `${hard} link from row ${before.row} to row ${row.row}`.trim());
     }
-    if (target) tie('guard', target, row, x_since(row.queued) + 4, x_since(row.queued) + 4, `row ${row.row} is the linked timeout of row ${row.target}`);
+    if (target) tie('timeout', target, row, x_since(row.queued) + 4, x_since(row.queued) + 4, `row ${row.row} is the linked timeout of row ${row.target}`);
   }
   for (const {cause, row, index} of arrows) {
     if (Math.max(cause.lane, row.lane) < low || Math.min(cause.lane, row.lane) > high) continue;
@@ -357,7 +358,7 @@ function ties(y_of, low, high) {
   return out.join('');
 }
 
-// What a lane holds, without its marks.
+// Returns the drawing of a lane without its marks.
 function lane_body(lane, y, low, high) {
   const out = [];
   for (const {since, until, value} of lane.spans ?? []) {
@@ -380,8 +381,8 @@ function lane_label(k, y) {
   return out.join('');
 }
 
-// Which part of the picture is in view. The upper lanes stay where they are if they leave room for
-// rows.
+// Returns which part of the picture is in view. The upper lanes do not scroll if they fill at most
+// half of its height.
 function frame() {
   const width = view.clientWidth, height = view.clientHeight, pinned = head_height <= height / 2;
   const low = within(from, from + Math.floor(view.scrollLeft / column), to);
@@ -392,7 +393,7 @@ function frame() {
   return {width, height, pinned, low, high, shift, top, y_of, first: Math.max(head_count, row_at(top)), last: Math.min(lanes.length - 1, row_at(height))};
 }
 
-// Some lanes in view: first what moves sideways, then their labels over it.
+// Draws the lanes from `a` to `b`: first what scrolls sideways, then the labels over it.
 function drawn(view_of, a, b) {
   const {width, low, high, y_of} = view_of, bodies = [], labels = [];
   for (let k = a; k <= b; k += 1) {
@@ -411,7 +412,7 @@ function drawn(view_of, a, b) {
 const plot = (inner) => element('g', {'clip-path': 'url(#plot)'}, inner);
 
 function draw() {
-  room.style.width = `${LABELS + (to - from) * column + BEHIND}px`;
+  room.style.width = `${LABELS + (to - from) * column + MARGIN}px`;
   room.style.height = `${Math.max(all_height, view.clientHeight)}px`;
   const it = frame(), {width, height, low, high, top} = it, line = head_height - 4 - it.shift;
   picture.setAttribute('width', width);
@@ -446,11 +447,11 @@ function table(heads, lines) {
   return element('table', {}, head + element('tbody', {}, lines.map(cells).join('')));
 }
 
-function tell() {
+function show_details() {
   const index = pointed ? pointed.event : event_picked, lane = lanes[pointed ? pointed.lane : lane_chosen];
   const step = steps[index - from], out = [];
   if (!step) {
-    told.innerHTML = '<h2>No events</h2>';
+    details.innerHTML = '<h2>No events</h2>';
     return;
   }
   const before = run.fillings[index - from], after = run.fillings[index - from + 1];
@@ -465,10 +466,10 @@ function tell() {
   }
   const row = lane.row ?? rows.get(step.key.startsWith('row ') ? step.number : -1);
   if (row) out.push(`<h3>Row ${row.row}</h3>`, element('p', {}, plain(row_text(row))));
-  told.innerHTML = out.join('');
+  details.innerHTML = out.join('');
 }
 
-// ---- moving
+// ---- navigation
 
 // Scrolls to the first row that hasn't completed at the picked event.
 function show_rows(top) {
@@ -488,7 +489,7 @@ function show() {
   by_id('moment').value = event_picked;
   keep_in_view();
   draw();
-  tell();
+  show_details();
 }
 function pick(index, follows) {
   event_picked = within(from, Math.round(index) || from, Math.max(from, to - 1));
@@ -500,20 +501,20 @@ function choose(lane) {
   lane_chosen = within(0, lane, lanes.length - 1);
   show();
 }
-// Picks the event of the chosen lane that comes next in a direction.
+// Picks the next event of the chosen lane: forwards for 1, backwards for -1.
 function step_along(direction) {
   const key = lanes[lane_chosen].key, all = direction < 0 ? steps.toReversed() : steps;
   const next = all.find((it) => it.key === key && direction * (it.index - event_picked) > 0);
   if (next) pick(next.index, false);
 }
-const whole_column = () => (view.clientWidth - LABELS - BEHIND) / Math.max(1, to - from);
+const whole_column = () => (view.clientWidth - LABELS - MARGIN) / Math.max(1, to - from);
 function widen(width) {
   column = within(Math.max(.02, Math.min(12, whole_column())), width, MOST_COLUMN);
   draw();
   show();
 }
 
-// Picks the event of the finding that comes next in a direction.
+// Picks the event of the next finding: forwards for 1, backwards for -1.
 function step_to_finding(direction) {
   const all = direction < 0 ? findings.toReversed() : findings;
   const next = all.find((it) => direction * (event_of(it) - event_picked) > 0);
@@ -545,11 +546,11 @@ view.addEventListener('keydown', (e) => {
   KEYS[e.key](e);
 });
 
-// The event and the lane under the pointer, if there are some.
+// Returns the event and the lane under the pointer, or null if there are none.
 function under(e) {
   const box = picture.getBoundingClientRect(), x = e.clientX - box.left, y = e.clientY - box.top, {pinned} = frame();
-  const told_by = e.target.closest('[data-event]')?.dataset.event, is_finding = y < AXIS && told_by !== undefined;
-  const event = Number(told_by ?? from + Math.floor((x - LABELS + view.scrollLeft) / column));
+  const marked_event = e.target.closest('[data-event]')?.dataset.event, is_finding = y < AXIS && marked_event !== undefined;
+  const event = Number(marked_event ?? from + Math.floor((x - LABELS + view.scrollLeft) / column));
   const depth = pinned && y < head_height ? y : y + view.scrollTop;
   const lane = is_finding ? lane_chosen : lanes.findIndex((it) => depth >= it.top && depth < it.top + it.height);
   return (y < AXIS && !is_finding) || x < LABELS || lane < 0 || event < from || event >= to ? null : {event, lane};
@@ -557,7 +558,7 @@ function under(e) {
 function point(now) {
   if (now?.event === pointed?.event && now?.lane === pointed?.lane) return;
   pointed = now;
-  tell();
+  show_details();
 }
 picture.addEventListener('pointermove', (e) => point(under(e)));
 picture.addEventListener('pointerleave', () => point(null));

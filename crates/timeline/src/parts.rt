@@ -1,5 +1,5 @@
-//! The data of a page, as JSON. Numbers that may pass 2^53 are texts, since a browser reads numbers
-//! as floats.
+//! The data of a page, as JSON. Numbers that may exceed 2^53 are strings, since a browser reads
+//! numbers as floats.
 
 use occupancy::Filling;
 use serde::Serialize;
@@ -34,7 +34,8 @@ pub struct RowPart {
     pub result: Option<i32>,
 }
 
-/// How full the two rings and the backlog are, and the clock.
+/// The entries in the submission ring, the completions in the completion ring and in the backlog,
+/// and the clock in nanoseconds.
 #[derive(Drop, Serialize)]
 pub struct FillingPart(pub u32, pub u32, pub u32, pub String);
 

@@ -56,7 +56,7 @@ fn row_parts(
     Ok(parts)
 }
 
-// Returns how full the queues are at the moments of a range.
+// Returns the occupancy at the moments of a range.
 fn fillings_in(occupancy: &Occupancy, from: u32, to: u32) -> &[Filling] {
     let fillings = occupancy.fillings.as_slice();
     let end = fillings.len().min(to as usize + 1);
@@ -90,7 +90,7 @@ fn stage_texts(alloc: Global, thread_stages: &ThreadStages) -> Result<Vec<String
     Ok(texts)
 }
 
-// Returns whether the poller is awake, as `show` prints it, if there is one.
+// Returns whether the poller is awake, as `show` prints it, or None without a poller.
 fn poller_text(alloc: Global, thread_stages: &ThreadStages) -> Result<Option<String>, AllocError> {
     match thread_stages.awake {
         Some(awake) => {
@@ -140,7 +140,8 @@ fn slice_before(tracks: &[u32], from: u32, moment: Option<u32>) -> Option<Slice>
     }
 }
 
-// Returns which earlier row is linked to a row; linked timeouts may be between them.
+// Returns the index of the row before this one in its chain. A linked timeout is no link of a
+// chain.
 fn linked_before(parts: &[RowPart], index: usize) -> Option<usize> {
     let part = parts.get(index)?;
     let before = index.checked_sub(1)?;
@@ -215,7 +216,7 @@ fn add_slices(
     Ok(tracks)
 }
 
-// Adds how full the queues are at the moments of a range, as counters.
+// Adds the occupancy at the moments of a range, as counters.
 fn add_fillings(
     alloc: Global,
     out: &mut Vec<u8>,
@@ -238,7 +239,7 @@ fn add_findings(alloc: Global, out: &mut Vec<u8>, parts: &[FindingPart]) -> Resu
     Ok(())
 }
 
-// Adds rows up to a moment.
+// Adds the rows, without what is after a moment.
 fn add_rows(
     alloc: Global,
     out: &mut Vec<u8>,

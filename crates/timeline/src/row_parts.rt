@@ -1,4 +1,4 @@
-//! Rows and programs in the data of a page.
+//! Builds the rows and the programs in the data of a page.
 
 use crate::parts::RowPart;
 use entries::{Phase, Row, Sqe};
@@ -7,7 +7,7 @@ use occupancy::Stamps;
 use sentences::{Counted, opcode_name};
 use std::alloc::{AllocError, Global};
 
-/// Returns the kernel's name of an opcode, also of one that isn't modelled.
+/// Returns the kernel's name of an opcode, modelled or not, or `unknown`.
 pub(crate) fn name_of(opcode: u8) -> &'static str {
     opcode_name(opcode).unwrap_or("unknown")
 }
@@ -56,7 +56,7 @@ fn put_text(alloc: Global, slot: u32, entry: &Sqe) -> Result<String, AllocError>
     format!(in alloc; "put {slot} {name} user_data {user}")
 }
 
-// Returns an instruction in the words of a script, without bytes.
+// Returns an instruction in the words of a script, without the bytes of a store.
 fn instruction_text(alloc: Global, instruction: &Instruction) -> Result<String, AllocError> {
     match instruction {
         Instruction::Put(slot, entry) => put_text(alloc, *slot, entry),

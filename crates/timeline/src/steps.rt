@@ -1,4 +1,4 @@
-//! The events of a part of a run, with what each changed, collected as the run is stepped.
+//! Collects the events of a part of a run, with the changes of each, while the run is stepped.
 ghost use Rattle.std.specs.Prelude.{◌≡◌, ℕ, None, [], map, string_bytes, IfOk};
 ghost use Rattle.run_log.specs.declared.range.EventRange.{EventRange};
 ghost use Rattle.runs.specs.Moments.{IsAfter};
@@ -15,7 +15,7 @@ use std::marker::{Brand, PhantomData};
 /// The most bytes of a line that are drawn.
 const LONGEST: usize = 400;
 
-/// The range of the events that are collected, in proofs.
+/// The range of the events that are collected, for proofs.
 pub trait Ranged {
     ghost range: { EventRange };
 }

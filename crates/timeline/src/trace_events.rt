@@ -1,4 +1,5 @@
-//! The trace event format, which Perfetto and chrome://tracing open. A moment is a microsecond.
+//! Writes the trace event format, which Perfetto and chrome://tracing open. One moment is drawn as
+//! one microsecond.
 
 use crate::parts::{FindingPart, RowPart, StepPart};
 use occupancy::Filling;
@@ -148,7 +149,7 @@ fn add_counter(alloc: Global, out: &mut Vec<u8>, name: &str, moment: u32, waitin
     add(out, members.as_str())
 }
 
-/// Adds how full the rings and the backlog are at a moment.
+/// Adds the occupancy of the rings and the backlog at a moment.
 pub(crate) fn add_filling(
     alloc: Global,
     out: &mut Vec<u8>,
@@ -221,8 +222,8 @@ fn add_row_end(alloc: Global, out: &mut Vec<u8>, part: &RowPart, name: &str, mom
     add_end(alloc, out, "e", name, part.row, moment, arguments.as_str())
 }
 
-/// Adds a row as an asynchronous slice, and within it how long it was queued and issued. Leaves out
-/// what is after the last moment.
+/// Adds a row as an asynchronous slice, with a slice inside it for each of its phases, queued and
+/// issued. Leaves out what is after the last moment.
 pub(crate) fn add_row(alloc: Global, out: &mut Vec<u8>, part: &RowPart, last: u32) -> Added {
     let row = part.row;
     let operation = part.name;

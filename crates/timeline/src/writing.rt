@@ -1,11 +1,11 @@
-//! Pictures as bytes.
+//! Writes pictures as bytes.
 use crate::drawn::Drawn;
 use crate::page::{HEAD, TAIL};
 use crate::parts::PagePart;
 use crate::picture_parts::{page_part, trace_file};
 use std::alloc::{AllocError, Global};
 
-// Returns a value as JSON. Nothing but an allocation can fail.
+// Returns the data of a page as JSON. Only an allocation can fail.
 fn json_of(alloc: Global, value: &PagePart<'_>) -> Result<Vec<u8>, AllocError> {
     match serde_json::to_vec(alloc, value) {
         Ok(json) => Ok(json),
@@ -13,7 +13,8 @@ fn json_of(alloc: Global, value: &PagePart<'_>) -> Result<Vec<u8>, AllocError> {
     }
 }
 
-// Writes JSON into a page. A `<` occurs only in its texts, where it is escaped.
+// Appends JSON to a page. A `<` occurs only in strings, and is escaped, so that no string ends the
+// page's script.
 fn put_json(out: &mut Vec<u8>, json: &[u8]) -> Result<(), AllocError> {
     for (i, part) in json.split(|byte| *byte == b'<').enumerate() {
         if i > 0 {
@@ -24,7 +25,7 @@ fn put_json(out: &mut Vec<u8>, json: &[u8]) -> Result<(), AllocError> {
     Ok(())
 }
 
-// Returns a page around its data.
+// Returns a page with this data.
 fn page_around(alloc: Global, json: &[u8]) -> Result<Vec<u8>, AllocError> {
     let mut out = Vec::new(alloc);
     out.extend_from_slice(HEAD.as_bytes())?;
