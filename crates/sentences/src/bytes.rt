@@ -36,7 +36,7 @@ impl Bytes {
 impl fmt::Display for Bytes {
     fn fmt<W: fmt::Write>(&self, f: &mut fmt::Formatter<W>) -> fmt::Result {
         let Bytes { first, last } = self;
-        if first == last {
+        if *first == *last {
             write!(f, "byte {first}")
         } else {
             write!(f, "bytes {first} to {last}")
