@@ -85,9 +85,11 @@ const SCRIPT: Operand = Operand {
     shape: Shape::File,
 };
 
+const RUN_HELP: &str = "Script file, or trace file of form 2, whose first byte is U";
+
 const RUN: Operand = Operand {
     name: "RUN",
-    help: "Script file, or trace file of form 2, whose first byte is U",
+    help: RUN_HELP,
     shape: Shape::File,
 };
 
@@ -258,7 +260,7 @@ pub const WORDS: &[Word] = &[
         operands: &[
             Operand {
                 name: "RUN",
-                help: RUN.help,
+                help: RUN_HELP,
                 shape: Shape::Files,
             },
             Operand {
