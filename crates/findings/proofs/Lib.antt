@@ -1,6 +1,6 @@
 pub mod Members
 pub mod Groups
-pub mod Equality
+pub mod Same
 pub mod Notes
 pub mod Shown
 pub mod Noted
