@@ -21,7 +21,7 @@ use Rattle.machine.specs.declared.whole.Machine.{Machine}
 use Rattle.machine.specs.Whole.{view}
 use Rattle.finding_kinds.specs.declared.finding.Finding.{Finding}
 use Rattle.findings.specs.declared.completed.Member.{Member}
-use Rattle.findings.specs.Endings.{Circumstances, ending_of, is_error, severs}
+use Rattle.findings.specs.Endings.{Circumstances, is_error, severs}
 use Rattle.findings.specs.Completions.{is_short_of_end, is_severing, is_dropped, is_later, member_of, any_passes, severs_others, is_severed, is_expiry_of, expires_over, expires_late, has_canceled_target, circumstances}
 use Rattle.findings.specs.Records.{row_in, of_place, of_change, of_row, member_if, members_at, members_of, is_severed_in, noted}
 use Rattle.findings.specs.Searching.{facts_before}

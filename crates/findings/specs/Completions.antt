@@ -46,16 +46,16 @@ member_of r row = record { number = r; unit = row.unit }
 abbrev pub is_later : Member → Member → Bool
 is_later x y = nat_lt x.number y.number && (y.unit == x.unit)
 
--- Whether some request passes both tests: of the request before and after an event, and of its
--- number and chain. `was` are all requests before the event, and `rows` all after it.
+-- Whether some request passes two tests: of the request before and after an event, and of its number
+-- and chain. `was` are all requests before the event, and `rows` all after it.
 abbrev pub any_passes : (Option Row → Row → Bool) → (Member → Bool) → List Row → List Row → Bool
 any_passes test fits was rows = any_numbered (λ r row. test (slice_get was r) row && fits (member_of r row)) rows
 
--- Whether an event canceled a later request of a chain.
+-- Whether the event canceled a later request of x's chain.
 abbrev pub severs_others : List Row → List Row → Member → Bool
 severs_others was rows x = any_passes is_dropped (is_later x) was rows
 
--- Whether in an event an earlier request severed the chain of x, and canceled a later request.
+-- Whether an earlier request severed x's chain in the event, and a later one than that was canceled.
 abbrev pub is_severed : List Row → List Row → Member → Bool
 is_severed was rows x = any_passes is_severing (λ y. is_later y x && severs_others was rows y) was rows
 

@@ -107,14 +107,13 @@ members_at test rows before _ = []
 abbrev pub members_of : (Option Row → Row → Bool) → List Row → Change → List Member
 members_of test rows c = members_at test rows c.old c.place
 
--- Whether an earlier request severed the chain of x and canceled a later one, by the requests of an
--- event that did so (`severing`) and those that were canceled.
+-- Whether an earlier request severed x's chain, and a later one than that was canceled, by all
+-- requests that did so in an event.
 abbrev pub is_severed_in : List Member → List Member → Member → Bool
 is_severed_in severing canceled x = list_any (λ y. is_later y x && list_any (is_later y) canceled) severing
 
--- The circumstances in which an event completes request r, by the requests that the event completed
--- and that severed their chain (`severing`) or were canceled (`canceled`), and by the facts that
--- were noted before it.
+-- The circumstances in which an event completes request r, by what the search noted: the requests
+-- that severed their chain in the event, those that were canceled, and the facts before it.
 abbrev pub noted : Setup → List Member → List Member → Before → Event → Machine → ℕ → Row → Circumstances
 noted s severing canceled b e after r row = record {
   short_of_end = is_short_of_end s after row;
