@@ -166,9 +166,7 @@ pub(crate) fn is_named(at: Transition<'_>, number: u32, row: &Row) -> bool
 fn could_finish(state: &State, number: u32) -> bool
     ensures { result ≡ could_finish state.now number }
 {
-    state
-        .refuses(Event::Finish(number, Choice::Full))
-        .is_none()
+    state.refuses(Event::Finish(number, Choice::Full)).is_none()
 }
 
 fn target_could_finish(state: &State, target: Option<u32>) -> bool

@@ -32,12 +32,7 @@ pub struct Completed {
 }
 
 // Appends a request if the test is true.
-fn add_member(
-    list: &mut Vec<Member>,
-    test: bool,
-    number: u32,
-    row: &Row,
-) -> Result<(), AllocError>
+fn add_member(list: &mut Vec<Member>, test: bool, number: u32, row: &Row) -> Result<(), AllocError>
     ensures { OnOk result (list.new.items ≡ list.old.items ++ member_if test number row.now) }
 {
     if test {
