@@ -15,7 +15,7 @@ use Rattle.machine.specs.Steps.{refusal}
 use Rattle.machine.specs.Whole.{view}
 use Rattle.machine.specs.declared.whole.Machine.{Machine}
 use Rattle.findings.specs.declared.completed.Member.{Member}
-use Rattle.findings.specs.Endings.{Circumstances, ending_of, is_error, result_in, severs}
+use Rattle.findings.specs.Endings.{Circumstances, ending_of, is_error, next_in, result_in, severs}
 use Rattle.findings.specs.Conflicts.{begins, file_of, moved, number_or_zero}
 
 -- ---- short transfers (read(2), write(2))
@@ -45,6 +45,10 @@ member_of r row = record { number = r; unit = row.unit }
 -- Whether the second request is a later one of the first one's chain.
 abbrev pub is_later : Member → Member → Bool
 is_later x y = nat_lt x.number y.number && (y.unit == x.unit)
+
+-- Whether the chain of request r has a later request, besides its linked timeout.
+abbrev pub continues : List Row → ℕ → Row → Bool
+continues rows r row = option_map_or (λ (other : Row). other.unit == row.unit) (next_in rows r) false
 
 -- Whether some request passes two tests: of the request before and after an event, and of its number
 -- and chain. `was` are all requests before the event, and `rows` all after it.
