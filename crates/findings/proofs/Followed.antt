@@ -14,7 +14,7 @@ use Rattle.scenario.specs.declared.setup.Setup.{Setup}
 use Rattle.machine.specs.declared.whole.Machine.{Machine}
 use Rattle.machine.specs.Steps.{after}
 use Rattle.machine.specs.Runs.{start, moment as machine_at}
-use Rattle.machine.specs.Whole.{view}
+use Rattle.machine.specs.Whole.{view, WellFormed}
 use Rattle.runs.specs.Moments.{IsAt, IsAfter}
 use Rattle.finding_kinds.specs.declared.finding.Finding.{Finding}
 use Rattle.finding_kinds.specs.declared.kind.Kind.{Kind}
@@ -24,11 +24,11 @@ use Rattle.findings.specs.declared.completed.Member.{Member}
 use Rattle.findings.specs.declared.conditions.Before.{Before}
 use Rattle.findings.specs.declared.watching.Watch.{Watch}
 use Rattle.findings.specs.Endings.{Circumstances}
-use Rattle.findings.specs.Completions.{is_severing, is_dropped, circumstances}
+use Rattle.findings.specs.Completions.{circumstances}
 use Rattle.findings.specs.Conditions.{overflows}
 use Rattle.findings.specs.Conflicts.{done_as, done_at}
 use Rattle.findings.specs.Findings.{occurs, occurs_at, Lasts, IsLeft, IsFinding, IsReportOf, Rises}
-use Rattle.findings.specs.Records.{members_of, noted, of_change, of_overflow, of_step, of_cancel, of_event, of_effect, after_notes, Covers, Adds, FoundBefore, IsLasting, AreLeft, IsAll, all_left, all_unsynced, SameFindings}
+use Rattle.findings.specs.Records.{members_of, severs_chain, drops, noted, of_change, of_overflow, of_step, of_cancel, of_event, of_effect, after_notes, Covers, Adds, FoundBefore, IsLasting, AreLeft, IsAll, all_left, all_unsynced, SameFindings}
 use Rattle.findings.specs.Searching.{facts_before, NotesFacts, HasSearched}
 use Rattle.findings.specs.Watched.{advanced, watched, of_lasting}
 use Rattle.findings.proofs.Lasting.{watched_first, advanced_more, lasting_reported}
@@ -151,10 +151,10 @@ added_by s i told b e n past fs now =
 
 -- After one more event.
 pub seen_more : (s : Setup) (es : List Event) (i : ℕ) (n : Machine) (e : Event) (b : Before) (past : List Change) (severing canceled : List Member) (fs gs : List Finding) (numbers now : List ℕ) (ws xs : List Watch)
-    → HasSearched s es i fs numbers ws → NotesFacts s es i b → IsAfter s es i e past n → severing ≡ flat_map (members_of is_severing n.table) past → canceled ≡ flat_map (members_of is_dropped n.table) past
+    → HasSearched s es i fs numbers ws → NotesFacts s es i b → IsAfter s es i e past n → WellFormed n → severing ≡ flat_map (members_of (severs_chain n.table) n.table) past → canceled ≡ flat_map (members_of drops n.table) past
     → gs ≡ added_by s i (noted s severing canceled b e n) b e n past fs now → NamesOnce past → now ≡ after_notes (view n) numbers past
     → xs ≡ map (advanced s n (i + 1)) ws → HasSearched s es (i + 1) gs now xs
-seen_more s es i n e b past severing canceled fs gs numbers now ws xs h facts at severing_is canceled_is added once further w = record {
+seen_more s es i n e b past severing canceled fs gs numbers now ws xs h facts at formed severing_is canceled_is added once further w = record {
   most = h.most;
   found = found_more s es i e fs gs numbers now at.there h.found (subst (λ (x : Machine). Covers x.table now) next_state covered) (subst (λ (x : Machine). Adds s i (machine_at s es i) e x fs gs numbers now) next_state adds);
   covered = subst (λ (x : Machine). Covers x.table now) at.at.here covered;
@@ -170,14 +170,14 @@ seen_more s es i n e b past severing canceled fs gs numbers now ws xs h facts at
     same_facts : facts_before s (machine_at s es i) e ≡ b
     same_facts = facts_are s es i e b at.there facts
 
-    told : (r : ℕ) (row : Row) → noted s severing canceled (facts_before s (machine_at s es i) e) e n r row ≡ circumstances s (machine_at s es i) e n r row
-    told r row =
+    told : (r : ℕ) (row : Row) → slice_get n.table r ≡ Some row → noted s severing canceled (facts_before s (machine_at s es i) e) e n r row ≡ circumstances s (machine_at s es i) e n r row
+    told r row k =
         ap (λ (ms : List Member). noted s ms canceled (facts_before s (machine_at s es i) e) e n r row) severing_is
-        ∙ ap (λ (ms : List Member). noted s (flat_map (members_of is_severing n.table) past) ms (facts_before s (machine_at s es i) e) e n r row) canceled_is
-        ∙ noted_told s (machine_at s es i) e n past r row at.exact once
+        ∙ ap (λ (ms : List Member). noted s (flat_map (members_of (severs_chain n.table) n.table) past) ms (facts_before s (machine_at s es i) e) e n r row) canceled_is
+        ∙ noted_told s (machine_at s es i) e n past r row at.exact once formed.mostly.table.chained k
 
     rows_same : flat_map (of_change i (noted s severing canceled (facts_before s (machine_at s es i) e) e n) n.table) past ≡ flat_map (of_change i (circumstances s (machine_at s es i) e n) n.table) past
-    rows_same = changes_alike i (noted s severing canceled (facts_before s (machine_at s es i) e) e n) (circumstances s (machine_at s es i) e n) told n.table past
+    rows_same = changes_alike i (noted s severing canceled (facts_before s (machine_at s es i) e) e n) (circumstances s (machine_at s es i) e n) n.table told past
 
     covered : Covers n.table now
     covered = covers_more (machine_at s es i) n past numbers now h.covered at.exact further

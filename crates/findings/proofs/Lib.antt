@@ -3,13 +3,13 @@ pub mod Groups
 pub mod Same
 pub mod Notes
 pub mod Shown
-pub mod Noted
 pub mod Candidates
 pub mod Passing
 pub mod Waiting
 pub mod OverwrittenTimes
 pub mod WouldConflict
 pub mod Draining
+pub mod Noted
 pub mod Looking
 pub mod Unfinished
 pub mod Barriers

@@ -1,8 +1,8 @@
 -- The circumstances that the search notes for a completed request are those of the event.
-use Rattle.std.proofs.Common.{◌≡◌, ◌⊎◌, inl, inr, ℕ, Bool, true, false, List, [], ◌∷◌, ◌++◌, refl, sym, ap, ◌∙◌, subst}
-use Rattle.std.proofs.lemmas.Bool.{and_parts, and_from, and_right, or_left, or_right, or_cases, false_from_ne_true}
+use Rattle.std.proofs.Common.{◌≡◌, ◌⊎◌, inl, inr, ℕ, ◌+◌, ◌<◌, ◌≤◌, Bool, true, false, cond, List, [], ◌∷◌, ◌++◌, refl, sym, ap, ◌∙◌, subst, arith}
+use Rattle.std.proofs.lemmas.Bool.{and_parts, and_from, and_left, and_right, or_left, or_right, or_cases, false_from_ne_true, true_from_ne_false, cases_lt, ltb-true, eqb-true, eq-eqb}
 use Rattle.std.proofs.lemmas.List.Folds.{list_any-append}
-use Rattle.std.specs.Prelude.{Option, Some, None, option_map, slice_get, ◌&&◌, ◌||◌, not}
+use Rattle.std.specs.Prelude.{Option, Some, None, option_map, slice_get, nat_lt, ◌==◌, ◌&&◌, ◌||◌, not}
 use Rattle.std.specs.Option.{option_map_or}
 use Rattle.std.specs.List.{list_any, flat_map, enumerate_from}
 use Rattle.entries.specs.declared.row.Row.{Row}
@@ -11,7 +11,7 @@ use Rattle.places.specs.declared.place.Place.TheVariants.{Request}
 use Rattle.places.specs.declared.value.Value.{Value}
 use Rattle.places.specs.declared.value.Change.{Change}
 use Rattle.places.specs.View.{Exact, NamesOnce}
-use Rattle.links_drains.specs.Links.{is_guard}
+use Rattle.links_drains.specs.Links.{is_guard, Chained}
 use Rattle.links_drains.proofs.Chains.{enumerated}
 use Rattle.links_drains.proofs.RestOfUnit.{numbered}
 use Rattle.links_drains.proofs.Units.{any_true, any_false}
@@ -22,15 +22,20 @@ use Rattle.machine.specs.Whole.{view}
 use Rattle.finding_kinds.specs.declared.finding.Finding.{Finding}
 use Rattle.findings.specs.declared.completed.Member.{Member}
 use Rattle.findings.specs.Endings.{Circumstances, ending_of, is_error, severs}
-use Rattle.findings.specs.Completions.{is_short_of_end, is_severing, is_dropped, is_later, member_of, any_passes, severs_others, is_severed, is_expiry_of, expires_over, expires_late, has_canceled_target, circumstances}
-use Rattle.findings.specs.Records.{row_in, of_place, of_change, of_row, member_if, members_at, members_of, is_severed_in, noted}
+use Rattle.findings.specs.Completions.{is_short_of_end, is_severing, is_dropped, is_later, continues, member_of, any_passes, severs_others, is_severed, is_expiry_of, expires_over, expires_late, has_canceled_target, circumstances}
+use Rattle.findings.specs.Records.{row_in, of_place, of_change, of_row, member_if, members_at, members_of, severs_chain, drops, is_severed_in, noted}
 use Rattle.findings.specs.Searching.{facts_before}
-use Rattle.findings.proofs.Members.{Has, has_flat_map}
+use Rattle.findings.proofs.Draining.{none_past}
+use Rattle.findings.proofs.Members.{Has, has_flat_map, none_after}
 use Rattle.findings.proofs.Notes.{AreTrue, true_notes}
 use Rattle.findings.proofs.Shown.{NeedsChange, not_completed, passes_named, row_in_requested}
 
 false_true : false ≡ true → ⊥
 false_true e = cc
+
+from_not : (b : Bool) → not b ≡ true → b ≡ false
+from_not true e = absurd (false_true e)
+from_not false e = refl
 
 -- ---- tests of lists
 
@@ -61,54 +66,62 @@ member_there false r row e = absurd (false_true e)
 abbrev both_pass : (Option Row → Row → Bool) → (Member → Bool) → List Row → ℕ × Row → Bool
 both_pass test fits was p = test (slice_get was p.0) p.1 && fits (member_of p.0 p.1)
 
-module _ (before next_state : Machine) (test : Option Row → Row → Bool) (fits : Member → Bool) where
+-- The search records only requests that pass the test.
+abbrev OnlyIf : (ℕ → Option Row → Row → Bool) → (Option Row → Row → Bool) → Type 0
+OnlyIf kept test = (r : ℕ) (old : Option Row) (row : Row) → kept r old row ≡ true → test old row ≡ true
+
+-- It records all of them that matter: those that pass the second test, too.
+abbrev AllOf : (ℕ → Option Row → Row → Bool) → (Option Row → Row → Bool) → (Member → Bool) → List Row → Type 0
+AllOf kept test fits rows = (r : ℕ) (old : Option Row) (row : Row) → slice_get rows r ≡ Some row → test old row ≡ true → fits (member_of r row) ≡ true → kept r old row ≡ true
+
+module _ (before next_state : Machine) (kept : ℕ → Option Row → Row → Bool) (test : Option Row → Row → Bool) (fits : Member → Bool) where
   passes_here : (r : ℕ) (row : Row) → slice_get next_state.table r ≡ Some row → test (slice_get before.table r) row ≡ true → fits (member_of r row) ≡ true → any_passes test fits before.table next_state.table ≡ true
   passes_here r row k t f =
       any_true (both_pass test fits before.table) (enumerate_from 0 next_state.table) r (r, row) (enumerated next_state.table r ∙ ap (option_map (λ (x : Row). (r, x))) k) (and_from (test (slice_get before.table r) row) (fits (member_of r row)) t f)
 
-  place_passes : (x : Option Value) (p : Place) → x ≡ view before p → list_any fits (members_at test next_state.table x p) ≡ true → any_passes test fits before.table next_state.table ≡ true
-  place_passes x (Request r) h t = by (slice_get next_state.table r) refl t
+  place_passes : OnlyIf kept test → (x : Option Value) (p : Place) → x ≡ view before p → list_any fits (members_at kept next_state.table x p) ≡ true → any_passes test fits before.table next_state.table ≡ true
+  place_passes only x (Request r) h t = by (slice_get next_state.table r) refl t
     where
       old : row_in x ≡ slice_get before.table r
       old = ap row_in h ∙ row_in_requested (slice_get before.table r)
 
-      by : (o : Option Row) → slice_get next_state.table r ≡ o → list_any fits (option_map_or (λ (row : Row). member_if (test (row_in x) row) r row) o []) ≡ true → any_passes test fits before.table next_state.table ≡ true
+      by : (o : Option Row) → slice_get next_state.table r ≡ o → list_any fits (option_map_or (λ (row : Row). member_if (kept r (row_in x) row) r row) o []) ≡ true → any_passes test fits before.table next_state.table ≡ true
       by None k u = absurd (false_true u)
       by (Some row) k u =
-          let parts = if_passes fits (test (row_in x) row) r row u in
-          passes_here r row k (ap (λ (o : Option Row). test o row) (sym old) ∙ parts.0) parts.1
-  place_passes x _ h t = absurd (false_true t)
+          let parts = if_passes fits (kept r (row_in x) row) r row u in
+          passes_here r row k (ap (λ (o : Option Row). test o row) (sym old) ∙ only r (row_in x) row parts.0) parts.1
+  place_passes only x _ h t = absurd (false_true t)
 
-  changes_pass : (cs : List Change) → AreTrue (view before) cs → list_any fits (flat_map (members_of test next_state.table) cs) ≡ true → any_passes test fits before.table next_state.table ≡ true
-  changes_pass [] h t = absurd (false_true t)
-  changes_pass (c ∷ cs) h t =
-      elim (or_cases (list_any fits (members_of test next_state.table c)) (list_any fits (flat_map (members_of test next_state.table) cs)) (sym (list_any-append fits (members_of test next_state.table c) (flat_map (members_of test next_state.table) cs)) ∙ t)) [
-        | inl u ↦ place_passes c.old c.place h.0 u
-        | inr u ↦ changes_pass cs h.1 u
+  changes_pass : OnlyIf kept test → (cs : List Change) → AreTrue (view before) cs → list_any fits (flat_map (members_of kept next_state.table) cs) ≡ true → any_passes test fits before.table next_state.table ≡ true
+  changes_pass only [] h t = absurd (false_true t)
+  changes_pass only (c ∷ cs) h t =
+      elim (or_cases (list_any fits (members_of kept next_state.table c)) (list_any fits (flat_map (members_of kept next_state.table) cs)) (sym (list_any-append fits (members_of kept next_state.table c) (flat_map (members_of kept next_state.table) cs)) ∙ t)) [
+        | inl u ↦ place_passes only c.old c.place h.0 u
+        | inr u ↦ changes_pass only cs h.1 u
       ]
 
-  row_passes : (cs : List Change) (r : ℕ) (row : Row) → NeedsChange test → Exact (view before) (view next_state) cs → slice_get next_state.table r ≡ Some row → test (slice_get before.table r) row ≡ true → fits (member_of r row) ≡ true
-      → list_any fits (flat_map (members_of test next_state.table) cs) ≡ true
-  row_passes cs r row needs x k t f =
-      has_passes fits (flat_map (members_of test next_state.table) cs) (member_of r row)
-      (has_flat_map (members_of test next_state.table) cs (record { place = Request r; old = view before (Request r) }) (member_of r row) (passes_named before next_state cs r row test needs x k t) placed) f
+  row_passes : AllOf kept test fits next_state.table → (cs : List Change) (r : ℕ) (row : Row) → NeedsChange test → Exact (view before) (view next_state) cs → slice_get next_state.table r ≡ Some row → test (slice_get before.table r) row ≡ true → fits (member_of r row) ≡ true
+      → list_any fits (flat_map (members_of kept next_state.table) cs) ≡ true
+  row_passes all cs r row needs x k t f =
+      has_passes fits (flat_map (members_of kept next_state.table) cs) (member_of r row)
+      (has_flat_map (members_of kept next_state.table) cs (record { place = Request r; old = view before (Request r) }) (member_of r row) (passes_named before next_state cs r row test needs x k t) placed) f
     where
       old : row_in (view before (Request r)) ≡ slice_get before.table r
       old = row_in_requested (slice_get before.table r)
 
-      placed : Has (members_at test next_state.table (view before (Request r)) (Request r)) (member_of r row)
-      placed = subst (λ (o : Option Row). Has (option_map_or (λ (y : Row). member_if (test (row_in (view before (Request r))) y) r y) o []) (member_of r row)) (sym k) (member_there (test (row_in (view before (Request r))) row) r row (ap (λ (o : Option Row). test o row) old ∙ t))
+      placed : Has (members_at kept next_state.table (view before (Request r)) (Request r)) (member_of r row)
+      placed = subst (λ (o : Option Row). Has (option_map_or (λ (y : Row). member_if (kept r (row_in (view before (Request r))) y) r y) o []) (member_of r row)) (sym k) (member_there (kept r (row_in (view before (Request r))) row) r row (all r (row_in (view before (Request r))) row k (ap (λ (o : Option Row). test o row) old ∙ t) f))
 
   -- Some request that the record names passes exactly if some request passes.
-  pub members_pass : (cs : List Change) → NeedsChange test → Exact (view before) (view next_state) cs → NamesOnce cs → list_any fits (flat_map (members_of test next_state.table) cs) ≡ any_passes test fits before.table next_state.table
-  members_pass cs needs x once = by (list_any fits (flat_map (members_of test next_state.table) cs)) refl
+  pub members_pass : OnlyIf kept test → AllOf kept test fits next_state.table → (cs : List Change) → NeedsChange test → Exact (view before) (view next_state) cs → NamesOnce cs → list_any fits (flat_map (members_of kept next_state.table) cs) ≡ any_passes test fits before.table next_state.table
+  members_pass only all cs needs x once = by (list_any fits (flat_map (members_of kept next_state.table) cs)) refl
     where
-      by : (b : Bool) → list_any fits (flat_map (members_of test next_state.table) cs) ≡ b → b ≡ any_passes test fits before.table next_state.table
-      by true e = sym (changes_pass cs (true_notes (view before) (view next_state) cs x once) e)
+      by : (b : Bool) → list_any fits (flat_map (members_of kept next_state.table) cs) ≡ b → b ≡ any_passes test fits before.table next_state.table
+      by true e = sym (changes_pass only cs (true_notes (view before) (view next_state) cs x once) e)
       by false e = sym (any_false (both_pass test fits before.table) (enumerate_from 0 next_state.table) (λ i p there.
           numbered (both_pass test fits before.table) next_state.table i p (λ row k. false_from_ne_true (both_pass test fits before.table (i, row)) (λ t.
           let parts = and_parts (test (slice_get before.table i) row) (fits (member_of i row)) t in
-          false_true (sym e ∙ row_passes cs i row needs x k parts.0 parts.1))) there))
+          false_true (sym e ∙ row_passes all cs i row needs x k parts.0 parts.1))) there))
 
 severing_changes : NeedsChange is_severing
 severing_changes row = not_completed row (severs (Some row) row)
@@ -121,44 +134,115 @@ dropped_changes row = and_right (not (is_guard row)) _ (not_completed row (is_er
 abbrev all_told : Bool → Bool → Bool → Bool → Circumstances
 all_told a b c d = record { short_of_end = a; severs_others = b; is_named = c; was_ready = d }
 
+-- ---- chains
+
+-- The chain of a request with a later one, other than a linked timeout, continues.
+later_continues : (rows : List Row) (r q : ℕ) (row x : Row) → Chained rows → slice_get rows r ≡ Some row → slice_get rows q ≡ Some x → r < q → x.unit ≡ row.unit → is_guard x ≡ false → continues rows r row ≡ true
+later_continues rows r q row x chained there k l same other = by (option_map_or is_guard (slice_get rows (r + 1)) false) refl
+  where
+    at : (n : ℕ) → r ≤ n → n ≤ q → (o : Option Row) → slice_get rows n ≡ o → option_map_or (λ (y : Row). y.unit == row.unit) o false ≡ true
+    at n low up None e = absurd (none_past rows n q x (none_after rows n e) up k)
+    at n low up (Some y) e =
+        let first : row.unit ≤ r = chained.back r row there in
+        eq-eqb y.unit row.unit (chained.run n q y x e k up (omega (arith, first, same, low)) ∙ same)
+
+    by : (b : Bool) → option_map_or is_guard (slice_get rows (r + 1)) false ≡ b → option_map_or (λ (y : Row). y.unit == row.unit) (slice_get rows (r + cond b 2 1)) false ≡ true
+    by false e = at (r + 1) (omega arith) (omega (arith, l)) (slice_get rows (r + 1)) refl
+    by true e =
+        elim (cases_lt (r + 1) q) [
+          | inl past ↦ at (r + 2) (omega arith) (omega (arith, past)) (slice_get rows (r + 2)) refl
+          | inr up ↦
+              let next : r + 1 ≡ q = omega (arith, l, up) in
+              absurd (false_true (sym (ap (λ (o : Option Row). option_map_or is_guard o false) (ap (slice_get rows) next ∙ k) ∙ other) ∙ e))
+        ]
+
+-- Whether request z severed x's chain before x.
+abbrev severs_earlier : List Row → List Row → Member → Member → Bool
+severs_earlier was rows x z = is_later z x && severs_others was rows z
+
 -- The lists that the record of an event gives.
 abbrev severing_in : Machine → List Change → List Member
-severing_in next_state cs = flat_map (members_of is_severing next_state.table) cs
+severing_in next_state cs = flat_map (members_of (severs_chain next_state.table) next_state.table) cs
 
 abbrev canceled_in : Machine → List Change → List Member
-canceled_in next_state cs = flat_map (members_of is_dropped next_state.table) cs
+canceled_in next_state cs = flat_map (members_of drops next_state.table) cs
 
-module _ (before next_state : Machine) (cs : List Change) (x : Exact (view before) (view next_state) cs) (once : NamesOnce cs) where
+module _ (before next_state : Machine) (cs : List Change) (x : Exact (view before) (view next_state) cs) (once : NamesOnce cs) (chained : Chained next_state.table) where
   others_severed : (y : Member) → list_any (is_later y) (canceled_in next_state cs) ≡ severs_others before.table next_state.table y
-  others_severed y = members_pass before next_state is_dropped (is_later y) cs dropped_changes x once
+  others_severed y = members_pass before next_state drops is_dropped (is_later y) (λ r old row t. t) (λ r old row k t f. t) cs dropped_changes x once
+
+  -- A request that severs others has a later one in its chain.
+  others_continue : (r : ℕ) (row : Row) → slice_get next_state.table r ≡ Some row → continues next_state.table r row ≡ false → severs_others before.table next_state.table (member_of r row) ≡ false
+  others_continue r row k e =
+      any_false (both_pass is_dropped (is_later (member_of r row)) before.table) (enumerate_from 0 next_state.table) (λ i p there.
+      numbered (both_pass is_dropped (is_later (member_of r row)) before.table) next_state.table i p (λ y h. false_from_ne_true (both_pass is_dropped (is_later (member_of r row)) before.table (i, y)) (λ t.
+      let parts = and_parts (is_dropped (slice_get before.table i) y) (is_later (member_of r row) (member_of i y)) t in
+      let later = and_parts (nat_lt r i) (y.unit == row.unit) parts.1 in
+      let other = and_parts (not (is_guard y)) (option_map_or (is_error 125) (ending_of (slice_get before.table i) y) false) parts.0 in
+      false_true (sym e ∙ later_continues next_state.table r i row y chained k h (ltb-true r i later.0) (eqb-true y.unit row.unit later.1) (from_not (is_guard y) other.0)))) there)
+
+  continues_on : (r : ℕ) (row : Row) → slice_get next_state.table r ≡ Some row → severs_others before.table next_state.table (member_of r row) ≡ true → continues next_state.table r row ≡ true
+  continues_on r row k t = true_from_ne_false (continues next_state.table r row) (λ e. false_true (sym (others_continue r row k e) ∙ t))
 
   was_severed : (y : Member) → is_severed_in (severing_in next_state cs) (canceled_in next_state cs) y ≡ is_severed before.table next_state.table y
   was_severed y =
       any_alike (λ (z : Member). is_later z y && list_any (is_later z) (canceled_in next_state cs)) (λ (z : Member). is_later z y && severs_others before.table next_state.table z)
       (λ z. ap (λ (b : Bool). is_later z y && b) (others_severed z)) (severing_in next_state cs)
-      ∙ members_pass before next_state is_severing (λ (z : Member). is_later z y && severs_others before.table next_state.table z) cs severing_changes x once
+      ∙ members_pass before next_state (severs_chain next_state.table) is_severing (λ (z : Member). is_later z y && severs_others before.table next_state.table z)
+      (λ r old row t. (and_parts (continues next_state.table r row) (is_severing old row) t).1)
+      (λ r old row k t f. and_from (continues next_state.table r row) (is_severing old row) (continues_on r row k (and_parts (is_later (member_of r row) y) (severs_others before.table next_state.table (member_of r row)) f).1) t)
+      cs severing_changes x once
+
+  -- Tests for a chain that goes on, and for a request that isn't the first of its chain, change nothing.
+  others_noted : (r : ℕ) (row : Row) → slice_get next_state.table r ≡ Some row → (continues next_state.table r row && list_any (is_later (member_of r row)) (canceled_in next_state cs)) ≡ severs_others before.table next_state.table (member_of r row)
+  others_noted r row k = ap (λ (b : Bool). continues next_state.table r row && b) (others_severed (member_of r row)) ∙ by (continues next_state.table r row) refl
+    where
+      by : (b : Bool) → continues next_state.table r row ≡ b → (b && severs_others before.table next_state.table (member_of r row)) ≡ severs_others before.table next_state.table (member_of r row)
+      by true e = refl
+      by false e = sym (others_continue r row k e)
+
+  first_unsevered : (r : ℕ) (row : Row) → row.unit ≡ r → is_severed before.table next_state.table (member_of r row) ≡ false
+  first_unsevered r row first =
+      any_false (both_pass is_severing (severs_earlier before.table next_state.table (member_of r row)) before.table) (enumerate_from 0 next_state.table) (λ i p there.
+      numbered (both_pass is_severing (severs_earlier before.table next_state.table (member_of r row)) before.table) next_state.table i p (λ y h. and_right (is_severing (slice_get before.table i) y) (severs_earlier before.table next_state.table (member_of r row) (member_of i y)) (and_left (is_later (member_of i y) (member_of r row)) _ (false_from_ne_true (is_later (member_of i y) (member_of r row)) (λ t.
+      let later = and_parts (nat_lt i r) (row.unit == y.unit) t in
+      let below : i < r = ltb-true i r later.0 in
+      let same : row.unit ≡ y.unit = eqb-true row.unit y.unit later.1 in
+      let low : y.unit ≤ i = chained.back i y h in
+      absurd (omega (arith, below, same, low, first)))))) there)
+
+  severed_noted : (r : ℕ) (row : Row) → (not (row.unit == r) && is_severed_in (severing_in next_state cs) (canceled_in next_state cs) (member_of r row)) ≡ is_severed before.table next_state.table (member_of r row)
+  severed_noted r row = ap (λ (b : Bool). not (row.unit == r) && b) (was_severed (member_of r row)) ∙ by (row.unit == r) refl
+    where
+      by : (b : Bool) → (row.unit == r) ≡ b → (not b && is_severed before.table next_state.table (member_of r row)) ≡ is_severed before.table next_state.table (member_of r row)
+      by true e = sym (first_unsevered r row (eqb-true row.unit r e))
+      by false e = refl
 
 -- What is noted of an event is its circumstances.
-pub noted_told : (s : Setup) (before : Machine) (e : Event) (next_state : Machine) (cs : List Change) (r : ℕ) (row : Row) → Exact (view before) (view next_state) cs → NamesOnce cs
+pub noted_told : (s : Setup) (before : Machine) (e : Event) (next_state : Machine) (cs : List Change) (r : ℕ) (row : Row) → Exact (view before) (view next_state) cs → NamesOnce cs → Chained next_state.table → slice_get next_state.table r ≡ Some row
     → noted s (severing_in next_state cs) (canceled_in next_state cs) (facts_before s before e) e next_state r row ≡ circumstances s before e next_state r row
-noted_told s before e next_state cs r row x once =
+noted_told s before e next_state cs r row x once chained k =
     let ready = is_expiry_of r e && (expires_late before e && has_canceled_target next_state.table row) in
     let over = expires_over next_state.table e r in
-    ap (λ (b : Bool). all_told (is_short_of_end s next_state row) b (is_severed_in (severing_in next_state cs) (canceled_in next_state cs) (member_of r row) || over) ready) (others_severed before next_state cs x once (member_of r row))
-    ∙ ap (λ (b : Bool). all_told (is_short_of_end s next_state row) (severs_others before.table next_state.table (member_of r row)) (b || over) ready) (was_severed before next_state cs x once (member_of r row))
+    let named = (not (row.unit == r) && is_severed_in (severing_in next_state cs) (canceled_in next_state cs) (member_of r row)) || over in
+    ap (λ (b : Bool). all_told (is_short_of_end s next_state row) b named ready) (others_noted before next_state cs x once chained r row k)
+    ∙ ap (λ (b : Bool). all_told (is_short_of_end s next_state row) (severs_others before.table next_state.table (member_of r row)) (b || over) ready) (severed_noted before next_state cs x once chained r row)
 
 -- ---- findings
 
 -- Equal circumstances give equal findings.
-place_alike : (i : ℕ) (f g : ℕ → Row → Circumstances) → ((r : ℕ) (row : Row) → f r row ≡ g r row) → (rows : List Row) (x : Option Value) (p : Place) → of_place i f rows x p ≡ of_place i g rows x p
-place_alike i f g h rows x (Request r) = by (slice_get rows r)
-  where
-    by : (o : Option Row) → option_map_or (λ (row : Row). of_row i (f r row) (row_in x) rows r row) o [] ≡ option_map_or (λ (row : Row). of_row i (g r row) (row_in x) rows r row) o []
-    by None = refl
-    by (Some row) = ap (λ (c : Circumstances). of_row i c (row_in x) rows r row) (h r row)
-place_alike i f g h rows x _ = refl
+abbrev pub Agree : List Row → (ℕ → Row → Circumstances) → (ℕ → Row → Circumstances) → Type 0
+Agree rows f g = (r : ℕ) (row : Row) → slice_get rows r ≡ Some row → f r row ≡ g r row
 
-pub changes_alike : (i : ℕ) (f g : ℕ → Row → Circumstances) → ((r : ℕ) (row : Row) → f r row ≡ g r row) → (rows : List Row) (cs : List Change) → flat_map (of_change i f rows) cs ≡ flat_map (of_change i g rows) cs
-changes_alike i f g h rows [] = refl
-changes_alike i f g h rows (c ∷ cs) =
-    ap (λ (fs : List Finding). fs ++ flat_map (of_change i f rows) cs) (place_alike i f g h rows c.old c.place) ∙ ap (λ (fs : List Finding). of_change i g rows c ++ fs) (changes_alike i f g h rows cs)
+place_alike : (i : ℕ) (f g : ℕ → Row → Circumstances) (rows : List Row) → Agree rows f g → (x : Option Value) (p : Place) → of_place i f rows x p ≡ of_place i g rows x p
+place_alike i f g rows h x (Request r) = by (slice_get rows r) refl
+  where
+    by : (o : Option Row) → slice_get rows r ≡ o → option_map_or (λ (row : Row). of_row i (f r row) (row_in x) rows r row) o [] ≡ option_map_or (λ (row : Row). of_row i (g r row) (row_in x) rows r row) o []
+    by None e = refl
+    by (Some row) e = ap (λ (c : Circumstances). of_row i c (row_in x) rows r row) (h r row e)
+place_alike i f g rows h x _ = refl
+
+pub changes_alike : (i : ℕ) (f g : ℕ → Row → Circumstances) (rows : List Row) → Agree rows f g → (cs : List Change) → flat_map (of_change i f rows) cs ≡ flat_map (of_change i g rows) cs
+changes_alike i f g rows h [] = refl
+changes_alike i f g rows h (c ∷ cs) =
+    ap (λ (fs : List Finding). fs ++ flat_map (of_change i f rows) cs) (place_alike i f g rows h c.old c.place) ∙ ap (λ (fs : List Finding). of_change i g rows c ++ fs) (changes_alike i f g rows h cs)

@@ -79,11 +79,11 @@ all_shown (Ok x) i told rows all cs bs ds fs gs hs e h g k = parts_given (of_cha
 all_shown (Err x) i told rows all cs bs ds fs gs hs e h g k = tt
 
 -- The requests that pass a test.
-place_has_none : (test : Option Row → Row → Bool) (rows : List Row) (x : Option Value) (p : Place) → is_row p ≡ false → members_at test rows x p ≡ []
+place_has_none : (test : ℕ → Option Row → Row → Bool) (rows : List Row) (x : Option Value) (p : Place) → is_row p ≡ false → members_at test rows x p ≡ []
 place_has_none test rows x (Request r) e = absurd (true_false e)
 place_has_none test rows x _ e = refl
 
-pub all_members : (test : Option Row → Row → Bool) (rows : List Row) (all cs bs ds : List Change) (xs ys zs : List Member) → all ≡ cs ++ (bs ++ ds) → OfNoRow bs → xs ≡ [] → ys ≡ xs ++ flat_map (members_of test rows) cs → zs ≡ ys ++ flat_map (members_of test rows) ds
+pub all_members : (test : ℕ → Option Row → Row → Bool) (rows : List Row) (all cs bs ds : List Change) (xs ys zs : List Member) → all ≡ cs ++ (bs ++ ds) → OfNoRow bs → xs ≡ [] → ys ≡ xs ++ flat_map (members_of test rows) cs → zs ≡ ys ++ flat_map (members_of test rows) ds
     → zs ≡ flat_map (members_of test rows) all
 all_members test rows all cs bs ds xs ys zs e h none g k =
     parts_given (members_of test rows) (λ c. place_has_none test rows c.old c.place) all cs bs ds xs ys zs e h g k

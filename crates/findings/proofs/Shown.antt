@@ -39,7 +39,7 @@ use Rattle.findings.specs.Uses.{changes_slot, changes_at}
 use Rattle.findings.specs.Canceling.{cancel_before, is_of_cancel, cancel_shows}
 use Rattle.findings.specs.declared.canceling.Cancel.{Cancel}
 use Rattle.findings.specs.Findings.{ends, comes, spills, step_shows, occurs}
-use Rattle.findings.specs.Records.{of_ended, of_queued, of_row, row_in, of_place, of_change, of_overflow, of_instruction, of_step, of_canceling, of_cancel, of_event}
+use Rattle.findings.specs.Records.{of_ended, of_queued, of_row, row_in, of_place, of_change, of_overflow, of_instruction, of_step, of_cancel, of_event}
 use Rattle.findings.proofs.Groups.{the_finding, given_only, given_there, group_only, group_there, is_ended_kind, is_step_kind, is_queued_kind, is_cancel_kind}
 use Rattle.findings.proofs.Members.{Has, has_left, has_right, has_flat_map}
 use Rattle.findings.proofs.Notes.{AreTrue, true_notes, is_named, change_there}

@@ -15,7 +15,7 @@ use Rattle.machine.specs.Steps.{refusal}
 use Rattle.machine.specs.Whole.{view}
 use Rattle.machine.specs.declared.whole.Machine.{Machine}
 use Rattle.findings.specs.declared.completed.Member.{Member}
-use Rattle.findings.specs.Endings.{Circumstances, ending_of, is_error, result_in, severs}
+use Rattle.findings.specs.Endings.{Circumstances, ending_of, is_error, next_in, result_in, severs}
 use Rattle.findings.specs.Conflicts.{begins, file_of, moved, number_or_zero}
 
 -- ---- short transfers (read(2), write(2))
@@ -46,16 +46,20 @@ member_of r row = record { number = r; unit = row.unit }
 abbrev pub is_later : Member → Member → Bool
 is_later x y = nat_lt x.number y.number && (y.unit == x.unit)
 
--- Whether some request passes both tests: of the request before and after an event, and of its
--- number and chain. `was` are all requests before the event, and `rows` all after it.
+-- Whether the chain of request r has a later request, besides its linked timeout.
+abbrev pub continues : List Row → ℕ → Row → Bool
+continues rows r row = option_map_or (λ (other : Row). other.unit == row.unit) (next_in rows r) false
+
+-- Whether some request passes two tests: of the request before and after an event, and of its number
+-- and chain. `was` are all requests before the event, and `rows` all after it.
 abbrev pub any_passes : (Option Row → Row → Bool) → (Member → Bool) → List Row → List Row → Bool
 any_passes test fits was rows = any_numbered (λ r row. test (slice_get was r) row && fits (member_of r row)) rows
 
--- Whether an event canceled a later request of a chain.
+-- Whether the event canceled a later request of x's chain.
 abbrev pub severs_others : List Row → List Row → Member → Bool
 severs_others was rows x = any_passes is_dropped (is_later x) was rows
 
--- Whether in an event an earlier request severed the chain of x, and canceled a later request.
+-- Whether an earlier request severed x's chain in the event, and a later one than that was canceled.
 abbrev pub is_severed : List Row → List Row → Member → Bool
 is_severed was rows x = any_passes is_severing (λ y. is_later y x && severs_others was rows y) was rows
 

@@ -38,7 +38,7 @@ use Rattle.findings.specs.declared.effect.Effect.{Effect}
 use Rattle.findings.specs.declared.effect.Effect.TheVariants.{Nothing}
 use Rattle.finding_kinds.specs.declared.finding.Finding.{Finding}
 use Rattle.findings.specs.Endings.{Circumstances, ended_test, queued_test}
-use Rattle.findings.specs.Completions.{is_short_of_end, is_later, member_of, is_expiry_of, expires_over, has_canceled_target, circumstances}
+use Rattle.findings.specs.Completions.{is_short_of_end, is_severing, is_dropped, is_later, continues, member_of, is_expiry_of, expires_over, has_canceled_target, circumstances}
 use Rattle.findings.specs.Canceling.{cancel_before, is_of_cancel}
 use Rattle.findings.specs.Conditions.{overflows, done_by, is_of_step, has_unsynced}
 use Rattle.findings.specs.Conflicts.{done_at, is_candidate, conflicts}
@@ -97,27 +97,34 @@ abbrev pub member_if : Bool → ℕ → Row → List Member
 member_if test r row = if test then member_of r row ∷ [] else []
 
 -- A recorded place, if it is a request that passes a test of it before and after the event.
-abbrev pub members_at : (Option Row → Row → Bool) → List Row → Option Value → Place → List Member
-members_at test rows before (Request r) = option_map_or (λ row. member_if (test (row_in before) row) r row) (slice_get rows r) []
+abbrev pub members_at : (ℕ → Option Row → Row → Bool) → List Row → Option Value → Place → List Member
+members_at test rows before (Request r) = option_map_or (λ row. member_if (test r (row_in before) row) r row) (slice_get rows r) []
 members_at test rows before _ = []
 
 -- The same for one change of a record.
-abbrev pub members_of : (Option Row → Row → Bool) → List Row → Change → List Member
+abbrev pub members_of : (ℕ → Option Row → Row → Bool) → List Row → Change → List Member
 members_of test rows c = members_at test rows c.old c.place
 
--- Whether an earlier request severed the chain of x and canceled a later one, by the requests of an
--- event that did so (`severing`) and those that were canceled.
+-- Whether an event completes request r, and it severs its chain, which has a later request.
+abbrev pub severs_chain : List Row → ℕ → Option Row → Row → Bool
+severs_chain rows r before row = continues rows r row && is_severing before row
+
+-- Whether an event completes request r with ECANCELED, and it is no linked timeout.
+abbrev pub drops : ℕ → Option Row → Row → Bool
+drops r before row = is_dropped before row
+
+-- Whether an earlier request severed x's chain, and a later one than that was canceled, by all
+-- requests that did so in an event.
 abbrev pub is_severed_in : List Member → List Member → Member → Bool
 is_severed_in severing canceled x = list_any (λ y. is_later y x && list_any (is_later y) canceled) severing
 
--- The circumstances in which an event completes request r, by the requests that the event completed
--- and that severed their chain (`severing`) or were canceled (`canceled`), and by the facts that
--- were noted before it.
+-- The circumstances in which an event completes request r, by what the search noted: the requests
+-- that severed their chain in the event, those that were canceled, and the facts before it.
 abbrev pub noted : Setup → List Member → List Member → Before → Event → Machine → ℕ → Row → Circumstances
 noted s severing canceled b e after r row = record {
   short_of_end = is_short_of_end s after row;
-  severs_others = list_any (is_later (member_of r row)) canceled;
-  is_named = is_severed_in severing canceled (member_of r row) || expires_over after.table e r;
+  severs_others = continues after.table r row && list_any (is_later (member_of r row)) canceled;
+  is_named = (not (row.unit == r) && is_severed_in severing canceled (member_of r row)) || expires_over after.table e r;
   was_ready = is_expiry_of r e && (b.was_ready && has_canceled_target after.table row);
 }
 

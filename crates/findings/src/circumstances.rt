@@ -1,6 +1,6 @@
 //! What a finding about a completed request depends on besides the request (read(2), write(2),
 //! io_uring_enter(2)).
-ghost use Rattle.std.specs.Prelude.{◌≡◌, ◌&&◌, false, slice_get};
+ghost use Rattle.std.specs.Prelude.{◌≡◌, ◌==◌, ◌&&◌, not, false, slice_get};
 ghost use Rattle.std.specs.Option.{option_map_or};
 ghost use Rattle.std.specs.List.{list_any};
 ghost use Rattle.links_drains.specs.Holding.{is_number};
@@ -11,7 +11,7 @@ ghost use Rattle.findings.specs.Records.{is_severed_in, noted};
 
 use crate::completed::{Completed, Member};
 use crate::conflicts::{begins, moved, number_or_zero};
-use crate::ends::{is_canceled, result_in};
+use crate::ends::{continues, is_canceled, result_in};
 use crate::files::file_of;
 use crate::leftover::row_at;
 use crate::transition::Transition;
@@ -88,11 +88,12 @@ fn member_of(number: u32, row: &Row) -> Member
 }
 
 /// Returns whether the event canceled a later request of the chain.
-pub(crate) fn severs_others(completed: &Completed, number: u32, row: &Row) -> bool
-    ensures { result ≡ list_any (is_later (member_of number row.now))
-        completed.now.canceled.items }
+pub(crate) fn severs_others(at: Transition<'_>, number: u32, row: &Row) -> bool
+    ensures { result ≡ (noted at.entry.setup.now at.entry.completed.now.severing.items
+        at.entry.completed.now.canceled.items at.entry.before at.entry.event at.entry.state.now
+        number row.now).severs_others }
 {
-    has_later(&completed.canceled, member_of(number, row))
+    continues(at.state, number, row) && has_later(&at.completed.canceled, member_of(number, row))
 }
 
 // Returns whether one request severed the chain of another, and the event canceled a later one.
@@ -109,6 +110,20 @@ fn is_severed(severing: &[Member], canceled: &[Member], member: Member) -> bool
     severing
         .iter()
         .any(|other| severs(canceled, *other, member))
+}
+
+// Returns the same for a request. The first request of a chain has no earlier one.
+fn is_row_severed(completed: &Completed, number: u32, row: &Row) -> bool
+    ensures { result ≡ (not (row.now.unit == number) && is_severed_in
+        completed.now.severing.items completed.now.canceled.items
+        (member_of number row.now)) }
+{
+    row.unit != number
+        && is_severed(
+            &completed.severing,
+            &completed.canceled,
+            member_of(number, row),
+        )
 }
 
 // ---- linked timeouts
@@ -155,20 +170,13 @@ pub(crate) fn is_named(at: Transition<'_>, number: u32, row: &Row) -> bool
         at.entry.completed.now.canceled.items at.entry.before at.entry.event at.entry.state.now
         number row.now).is_named }
 {
-    let completed = at.completed;
-    is_severed(
-        &completed.severing,
-        &completed.canceled,
-        member_of(number, row),
-    ) || expires_over(at.state, at.event, number)
+    is_row_severed(at.completed, number, row) || expires_over(at.state, at.event, number)
 }
 
 fn could_finish(state: &State, number: u32) -> bool
     ensures { result ≡ could_finish state.now number }
 {
-    state
-        .refuses(Event::Finish(number, Choice::Full))
-        .is_none()
+    state.refuses(Event::Finish(number, Choice::Full)).is_none()
 }
 
 fn target_could_finish(state: &State, target: Option<u32>) -> bool

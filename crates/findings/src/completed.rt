@@ -2,11 +2,11 @@
 //! (io_uring_enter(2), IOSQE_IO_LINK).
 ghost use Rattle.std.specs.Prelude.{◌≡◌, ◌++◌, IfOk, OnOk};
 ghost use Rattle.std.specs.List.{flat_map};
-ghost use Rattle.findings.specs.Completions.{is_severing, is_dropped};
-ghost use Rattle.findings.specs.Records.{member_if, members_at, members_of};
+ghost use Rattle.machine.specs.Whole.{WellFormed};
+ghost use Rattle.findings.specs.Records.{member_if, members_at, members_of, severs_chain, drops};
 
 use crate::changes::pass_over;
-use crate::ends::{is_dropped, is_severing};
+use crate::ends::{continues, is_dropped, is_severing};
 use crate::leftover::row_at;
 use crate::record::row_in;
 use entries::Row;
@@ -22,22 +22,17 @@ pub struct Member {
     pub unit: u32,
 }
 
-/// Requests that an event completes.
+/// The requests that an event completes, as far as they can name others or be named.
 #[derive(Drop)]
 pub struct Completed {
-    /// Those that sever their chain: soft-linked requests that failed or were short themselves.
+    /// Soft-linked requests that failed or were short themselves, whose chain has a later request.
     pub severing: Vec<Member>,
-    /// Those that complete with ECANCELED, except linked timeouts.
+    /// Requests that complete with ECANCELED, except linked timeouts.
     pub canceled: Vec<Member>,
 }
 
 // Appends a request if the test is true.
-fn add_member(
-    list: &mut Vec<Member>,
-    test: bool,
-    number: u32,
-    row: &Row,
-) -> Result<(), AllocError>
+fn add_member(list: &mut Vec<Member>, test: bool, number: u32, row: &Row) -> Result<(), AllocError>
     ensures { OnOk result (list.new.items ≡ list.old.items ++ member_if test number row.now) }
 {
     if test {
@@ -57,15 +52,15 @@ fn add_row(
     old: Option<Value>,
 ) -> Result<(), AllocError>
     ensures severing { OnOk result (completed.new.severing.items ≡ completed.old.severing.items
-        ++ members_at is_severing state.now.table old (Place.Request number)) }
+        ++ members_at (severs_chain state.now.table) state.now.table old (Place.Request number)) }
     ensures canceled { OnOk result (completed.new.canceled.items ≡ completed.old.canceled.items
-        ++ members_at is_dropped state.now.table old (Place.Request number)) }
+        ++ members_at drops state.now.table old (Place.Request number)) }
 {
     let Some(row) = row_at(state, number) else {
         return Ok(());
     };
     let before = row_in(old);
-    let severing = is_severing(&before, &row);
+    let severing = continues(state, number, &row) && is_severing(&before, &row);
     add_member(&mut completed.severing, severing, number, &row)?;
     let canceled = is_dropped(&before, &row);
     add_member(&mut completed.canceled, canceled, number, &row)
@@ -73,9 +68,9 @@ fn add_row(
 
 fn add_change(completed: &mut Completed, state: &State, change: Change) -> Result<(), AllocError>
     ensures severing { OnOk result (completed.new.severing.items ≡ completed.old.severing.items
-        ++ members_of is_severing state.now.table change) }
+        ++ members_of (severs_chain state.now.table) state.now.table change) }
     ensures canceled { OnOk result (completed.new.canceled.items ≡ completed.old.canceled.items
-        ++ members_of is_dropped state.now.table change) }
+        ++ members_of drops state.now.table change) }
 {
     let Place::Request(number) = change.place else {
         return Ok(());
@@ -89,9 +84,9 @@ fn add_changes(
     rest: &mut Changes<'_>,
 ) -> Result<(), AllocError>
     ensures severing { OnOk result (completed.new.severing.items ≡ completed.old.severing.items
-        ++ flat_map (members_of is_severing state.now.table) rest.old) }
+        ++ flat_map (members_of (severs_chain state.now.table) state.now.table) rest.old) }
     ensures canceled { OnOk result (completed.new.canceled.items ≡ completed.old.canceled.items
-        ++ flat_map (members_of is_dropped state.now.table) rest.old) }
+        ++ flat_map (members_of drops state.now.table) rest.old) }
 {
     while let Some(change) = rest.next() {
         add_change(completed, state, change)?;
@@ -106,10 +101,12 @@ pub(crate) fn completed_by(
     past: &Record,
 ) -> Result<Completed, AllocError>
     ensures severing { IfOk result (λ completed. completed.severing.items
-        ≡ flat_map (members_of is_severing state.now.table) past.now) }
+        ≡ flat_map (members_of (severs_chain state.now.table) state.now.table) past.now) }
     ensures canceled { IfOk result (λ completed. completed.canceled.items
-        ≡ flat_map (members_of is_dropped state.now.table) past.now) }
+        ≡ flat_map (members_of drops state.now.table) past.now) }
+    ensures formed { WellFormed state.now }
 {
+    let _first = row_at(state, 0);
     let (mut first, mut bytes, mut last) = past.parts();
     pass_over(&mut bytes);
     let mut completed = Completed {

@@ -4,7 +4,7 @@ ghost use Rattle.std.specs.Option.{option_map_or};
 ghost use Rattle.timeouts_cancel.specs.Cascades.{is_bad, is_transfer};
 ghost use Rattle.links_drains.specs.Links.{has_flag, is_guard, is_linked};
 ghost use Rattle.findings.specs.Endings.{had_ended, was_issued, result_in, ending_of, is_error, is_less, is_reported_apart, severs, next_in, has_next, leaves_chain, is_of, has_idle_field, comes_as, ended_test, queued_test};
-ghost use Rattle.findings.specs.Completions.{is_severing, is_dropped};
+ghost use Rattle.findings.specs.Completions.{is_severing, is_dropped, continues};
 ghost use Rattle.findings.specs.Records.{noted};
 
 use crate::circumstances::{is_named, is_right, is_short_of_end, severs_others, was_ready};
@@ -127,6 +127,16 @@ fn severs(before: &Option<Row>, row: &Row, res: i32) -> bool
     is_soft_linked(row) && (is_bad(row, res) && (was_issued(before) || !is_canceled(res)))
 }
 
+/// Returns whether the chain of the request has a later request, besides its linked timeout.
+pub(crate) fn continues(state: &State, number: u32, row: &Row) -> bool
+    ensures { result ≡ continues state.now.table number row.now }
+{
+    match next_in(state, number) {
+        Some(other) => other.unit == row.unit,
+        None => false,
+    }
+}
+
 /// Returns whether the event completes the request, and it severs its chain.
 pub(crate) fn is_severing(before: &Option<Row>, row: &Row) -> bool
     ensures { result ≡ is_severing before.now row.now }
@@ -227,7 +237,7 @@ fn is_of(
         EndedKind::Short(verdict) => {
             is_short(row, res) && is_right(verdict, is_short_of_end(at, row))
         }
-        EndedKind::Severed => severs(before, row, res) && severs_others(at.completed, number, row),
+        EndedKind::Severed => severs(before, row, res) && severs_others(at, number, row),
         EndedKind::Canceled => is_canceled(res) && !is_named(at, number, row),
         EndedKind::TimedOut(verdict) => {
             has_timed_out(row, res) && is_right(verdict, was_ready(at, number, row))

@@ -55,11 +55,7 @@ fn add_of_ended(
             kind: Kind::Ended(kind),
             subject: number,
         };
-        add_if(
-            found,
-            ended_test(kind, at, before, number, row),
-            finding,
-        )?;
+        add_if(found, ended_test(kind, at, before, number, row), finding)?;
     }
     Ok(())
 }

@@ -1,11 +1,11 @@
-use Rattle.findings.specs.Completions.{is_severing, is_dropped}
+use Rattle.findings.specs.Records.{severs_chain, drops}
 use Rattle.findings.proofs.Passing.{all_members}
 use Rattle.findings.proofs.completed.completed_by.Goals as goal
 
 pub returns-clause-severing : goal.returns-clause-severing
 returns-clause-severing c =
-    all_members is_severing c.args.state.now.table _ _ _ _ _ _ _ c.parts-first.ensures.value c.pass_over.ensures c.new.ensures.items c.in_ok-add_changes.ensures.severing c.in_ok-add_changes-2.ensures.severing
+    all_members (severs_chain c.args.state.now.table) c.args.state.now.table _ _ _ _ _ _ _ c.parts-first.ensures.value c.pass_over.ensures c.new.ensures.items c.in_ok-add_changes.ensures.severing c.in_ok-add_changes-2.ensures.severing
 
 pub returns-clause-canceled : goal.returns-clause-canceled
 returns-clause-canceled c =
-    all_members is_dropped c.args.state.now.table _ _ _ _ _ _ _ c.parts-first.ensures.value c.pass_over.ensures c.new-2.ensures.items c.in_ok-add_changes.ensures.canceled c.in_ok-add_changes-2.ensures.canceled
+    all_members drops c.args.state.now.table _ _ _ _ _ _ _ c.parts-first.ensures.value c.pass_over.ensures c.new-2.ensures.items c.in_ok-add_changes.ensures.canceled c.in_ok-add_changes-2.ensures.canceled

@@ -9,5 +9,5 @@ returns-clause-ok c =
     let e = c.in_ok-look.ensures in
     let len = c.deref_mut.ensures.len in
     let next = advanced c.args.at.setup.now c.args.at.state.now (c.args.at.index + 1) in
-    seen_more _ _ c.args.at.index c.args.at.state.now c.args.at.event c.args.note c.args.past.now _ _ _ _ _ _ _ _ c.requires.seen c.requires.note c.requires.at c.in_ok-completed.ensures.severing c.in_ok-completed.ensures.canceled e.added e.once e.further
+    seen_more _ _ c.args.at.index c.args.at.state.now c.args.at.event c.args.note c.args.past.now _ _ _ _ _ _ _ _ c.requires.seen c.requires.note c.requires.at c.in_ok-completed.ensures.formed c.in_ok-completed.ensures.severing c.in_ok-completed.ensures.canceled e.added e.once e.further
     (mapped_back next _ _ _ _ _ c.deref_mut.ensures.value c.advance.ensures (omega (arith, len)) ∙ ap (λ w. map next w.items) e.watches)
