@@ -33,6 +33,7 @@ complete -c uringwalk -n '__uringwalk_word_is replay log explain timeline' -F
 
 # The options of each word.
 complete -c uringwalk -n '__uringwalk_word_is trace' -l form -x -a '1 2' -d 'The form of the trace'
+complete -c uringwalk -n '__uringwalk_word_is trace' -l eager -d 'The run of a kernel that does at once all that it can'
 complete -c uringwalk -n '__uringwalk_word_is log timeline' -l from -x -d 'The first event'
 complete -c uringwalk -n '__uringwalk_word_is log timeline' -l to -x -d 'The event after the last'
 complete -c uringwalk -n '__uringwalk_word_is explain' -l json -d 'Print JSON'

@@ -64,11 +64,12 @@ pub enum Job<'a> {
         /// 1 to 1000000.
         clients: Option<u32>,
     },
-    /// The trace of a script's schedule.
+    /// The trace of a script's schedule, or of its eager run.
     Trace {
         script: &'a str,
         out: &'a str,
         form: Form,
+        eager: bool,
     },
     /// A trace of the first form, made one of the second with a script's setup.
     Migrate {

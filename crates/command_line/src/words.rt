@@ -113,6 +113,7 @@ fn job_of<'a>(verb: Verb, matches: &ArgMatches<'a>) -> Job<'a> {
             script,
             out,
             form: form_of(matches),
+            eager: matches.get_flag("eager"),
         },
         Verb::Migrate => Job::Migrate {
             script,

@@ -1,11 +1,16 @@
 -- Traces of scripts.
 use Rattle.std.specs.Prelude.{◌≡◌, ℕ, List, length}
 use Rattle.script.specs.Scripts.{Scenario}
+use Rattle.scenario.specs.declared.event.Event.{Event}
 use Rattle.traces.specs.Setups.{canonical, IsTrace2}
 use Rattle.traces.specs.Spelling.{IsTrace}
 use Rattle.command_line.specs.declared.task.Form.{Form}
 use Rattle.command_line.specs.declared.task.Form.TheVariants.{Events, Whole}
 use Rattle.debug_server.specs.declared.tracing.Traced.{Traced}
+
+-- A scenario with other events in the place of its schedule.
+abbrev pub with_schedule : Scenario → List Event → Scenario
+with_schedule p events = record p { schedule = events }
 
 -- The bytes are the trace of a scenario in a form.
 abbrev pub IsSpelling : Form → Scenario → List ℕ → Type 0

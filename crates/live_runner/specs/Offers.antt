@@ -81,6 +81,15 @@ ends m =
 abbrev pub works : Machine → Option Event
 works m = or_else (on_row Issuing (least_row m Issuing)) (ends m)
 
+-- The same without ticks: what a kernel worker does at once.
+abbrev pub at_once : Option Event → Option Event
+at_once None = None
+at_once (Some (Tick d)) = None
+at_once (Some event) = Some event
+
+abbrev pub eager_offer : Machine → Option Event
+eager_offer m = at_once (works m)
+
 -- ---- All actors
 
 -- The next event of an actor, if it has one, by its kind.
