@@ -1,20 +1,22 @@
 //! The eager run of a script: the steps, takes and ticks of its schedule, and after each all that
 //! kernel workers can do by then.
-ghost use Rattle.std.specs.Prelude.{◌≡◌, ℕ, true, false, List, None, IfOk, IfErr, OnOk, ◌++◌, ◌∷◌, []};
+ghost use Rattle.std.specs.Prelude.{◌≡◌, ◌≤◌, ◌⊎◌, ℕ, List, Some, None, length, IfOk, IfErr, OnOk, ◌∷◌, []};
 ghost use Rattle.scenario.specs.declared.event.Event.{Event};
-ghost use Rattle.machine.specs.Runs.{start, run, Accepts};
+ghost use Rattle.scenario.specs.declared.event.Refusal.{Refusal};
+ghost use Rattle.scenario.specs.Setups.{setup_refusal};
+ghost use Rattle.machine.specs.Runs.{start, Accepts};
 ghost use Rattle.machine.specs.Steps.{refusal, after};
-ghost use Rattle.debug_server.specs.Eager.{IsEager, IsWork, is_due, lags, counter, waits};
+ghost use Rattle.debug_server.specs.Eager.{Adds, IsWork, FollowsOne, Follows, RefusesOne, Stops, IsEager, IsRefusedEagerly, is_due, lags, counter, waits};
 ghost use Rattle.debug_server.specs.Kinds.{IsOf, OfSchedule, OfMemory};
 
 use crate::faults::RunFault;
 use crate::running::fault_by;
+use inverse_log::walker::TRACE_LIMIT;
 use live_runner::eager_offer;
-use machine::State;
+use machine::{Event, Refusal, Setup, State};
 use places::{Place, Stage, Value};
-use scenario::Event;
 use script::Script;
-use std::alloc::Global;
+use std::alloc::{AllocError, Global};
 
 /// A run that follows a schedule, and does at once all that kernel workers can do.
 #[derive(Drop)]
@@ -26,46 +28,73 @@ struct Eager {
     events: Vec<Event>,
 }
 
-/// Returns the eager run of a script. A schedule fault names the first of its events that the
-/// schedule's own run refuses, or else the eager one.
+/// Returns the eager run of a script. A schedule fault names the first event of the schedule that
+/// its own run or the eager one refuses.
 pub(crate) fn eager_events(alloc: Global, script: &Script) -> Result<Vec<Event>, RunFault>
     ensures accepts { IfOk result (λ events. Accepts (start script.now.setup) events.items) }
     ensures eager { IfOk result (λ events.
         IsEager script.now.setup script.now.schedule events.items) }
+    ensures few { IfOk result (λ events. length events.items ≤ 1048576) }
+    ensures schedule { IfErr result (λ e. (i : ℕ) → (n : Refusal) → e ≡ RunFault.Schedule i n
+        → IsRefusedEagerly script.now.setup script.now.schedule i n) }
     ensures other { IfErr result (IsOf (OfSchedule ∷ OfMemory ∷ [])) }
 {
-    let (Ok(plain), Ok(state)) = (
-        State::new(alloc, script.setup()),
-        State::new(alloc, script.setup()),
-    ) else {
+    let Ok(mut run) = Eager::new(alloc, script.setup()) else {
         return Err(RunFault::Memory);
     };
-    let mut run = Eager {
-        plain,
-        state,
-        events: Vec::new(alloc),
-    };
-    let schedule = script.schedule();
-    for i in 0..schedule.len() {
-        run.follow(i as u32, schedule[i])?;
-    }
+    run.follow_all(script.schedule())?;
     Ok(run.events)
 }
 
 impl Eager {
+    // Returns the run without events.
+    fn new(alloc: Global, setup: &Setup) -> Result<Eager, AllocError>
+        requires { setup_refusal setup.now ≡ None }
+        ensures { IfOk result (λ r. (r.plain ≡ start setup.now) × (r.state ≡ start setup.now)
+            × (r.events.items ≡ [])) }
+    {
+        let Ok(plain) = State::new(alloc, setup) else {
+            return Err(AllocError);
+        };
+        let state = plain.copy(alloc)?;
+        Ok(Eager {
+            plain,
+            state,
+            events: Vec::new(alloc),
+        })
+    }
+
+    // Follows a schedule.
+    fn follow_all(&mut self, schedule: &[Event]) -> Result<(), RunFault>
+        requires few { length self.old.events.items ≤ 1048576 }
+        requires most { length schedule.now ≤ 1048576 }
+        ensures few { OnOk result (length self.new.events.items ≤ 1048576) }
+        ensures follows { OnOk result ((made : List Event)
+            × Follows self.old.plain self.old.state schedule.now made
+            × Adds self.old.state self.old.events.items made
+            self.new.state self.new.events.items) }
+        ensures schedule { IfErr result (λ e. (i : ℕ) → (n : Refusal) → e ≡ RunFault.Schedule i n
+            → Stops self.old.plain self.old.state schedule.now i n) }
+        ensures other { IfErr result (IsOf (OfSchedule ∷ OfMemory ∷ [])) }
+    {
+        for i in 0..schedule.len() {
+            self.follow(i as u32, schedule[i])?;
+        }
+        Ok(())
+    }
+
     // Makes an event of the schedule, if it is due, and all that kernel workers can do after it.
     fn follow(&mut self, index: u32, event: Event) -> Result<(), RunFault>
-        ensures plain { OnOk result ((refusal self.old.plain event ≡ None)
-            × (self.new.plain ≡ after self.old.plain event)) }
-        ensures due { OnOk result (is_due (after self.old.plain event) self.old.state event ≡ true
-            → (work : List Event) × IsWork (after self.old.state event) work
-            × (refusal self.old.state event ≡ None)
-            × (self.new.state ≡ run (after self.old.state event) work)
-            × (self.new.events.items ≡ self.old.events.items ++ (event ∷ work))) }
-        ensures left_out { OnOk result
-            (is_due (after self.old.plain event) self.old.state event ≡ false
-            → (self.new.state ≡ self.old.state)
-            × (self.new.events.items ≡ self.old.events.items)) }
+        requires { length self.old.events.items ≤ 1048576 }
+        ensures few { OnOk result (length self.new.events.items ≤ 1048576) }
+        ensures plain { OnOk result (self.new.plain ≡ after self.old.plain event) }
+        ensures follows { OnOk result ((added : List Event)
+            × FollowsOne (is_due (after self.old.plain event) self.old.state event)
+            self.old.state event added
+            × Adds self.old.state self.old.events.items added
+            self.new.state self.new.events.items) }
+        ensures schedule { IfErr result (λ e. (i : ℕ) → (n : Refusal) → e ≡ RunFault.Schedule i n
+            → (i ≡ index) × RefusesOne self.old.plain self.old.state event n) }
         ensures other { IfErr result (IsOf (OfSchedule ∷ OfMemory ∷ [])) }
     {
         if let Err(refusal) = self.plain.step(event) {
@@ -74,28 +103,52 @@ impl Eager {
         if !is_due(&self.plain, &self.state, event) {
             return Ok(());
         }
-        self.add(index, event)?;
+        if let Err(refusal) = self.add(event) {
+            return Err(fault_by(index, refusal));
+        }
+        match self.work() {
+            Ok(()) => Ok(()),
+            Err(_) => Err(RunFault::Memory),
+        }
+    }
+
+    // Makes all that kernel workers can do. The rules accept each event that a worker is offered, so
+    // only a failed allocation ends it early.
+    fn work(&mut self) -> Result<(), AllocError>
+        requires { length self.old.events.items ≤ 1048576 }
+        ensures few { OnOk result (length self.new.events.items ≤ 1048576) }
+        ensures plain { self.new.plain ≡ self.old.plain }
+        ensures work { OnOk result ((work : List Event) × IsWork self.old.state work
+            × Adds self.old.state self.old.events.items work
+            self.new.state self.new.events.items) }
+    {
         'work: while let Some(event) = eager_offer(&self.state) {
-            self.add(index, event)?;
+            let Ok(()) = self.add(event) else {
+                return Err(AllocError);
+            };
         }
         Ok(())
     }
 
-    // Makes an event of the eager run.
-    fn add(&mut self, index: u32, event: Event) -> Result<(), RunFault>
+    // Makes an event of the eager run. More events than a trace can have are refused as `Memory`; no
+    // script is long enough for so many.
+    fn add(&mut self, event: Event) -> Result<(), Refusal>
+        requires { length self.old.events.items ≤ 1048576 }
+        ensures few { OnOk result (length self.new.events.items ≤ 1048576) }
         ensures plain { self.new.plain ≡ self.old.plain }
-        ensures ok { OnOk result ((refusal self.old.state event ≡ None)
-            × (self.new.state ≡ after self.old.state event)
-            × (self.new.events.items ≡ self.old.events.items ++ (event ∷ []))) }
-        ensures other { IfErr result (IsOf (OfSchedule ∷ OfMemory ∷ [])) }
+        ensures added { OnOk result (Adds self.old.state self.old.events.items (event ∷ [])
+            self.new.state self.new.events.items) }
+        ensures refused { IfErr result (λ n. (refusal self.old.state event ≡ Some n)
+            ⊎ (n ≡ Refusal.Memory)) }
     {
+        if self.events.len() >= TRACE_LIMIT {
+            return Err(Refusal::Memory);
+        }
         if self.events.push(event).is_err() {
-            return Err(RunFault::Memory);
+            return Err(Refusal::Memory);
         }
-        match self.state.step(event) {
-            Ok(_) => Ok(()),
-            Err(refusal) => Err(fault_by(index, refusal)),
-        }
+        self.state.step(event)?;
+        Ok(())
     }
 }
 

@@ -11,8 +11,7 @@ ghost use Rattle.traces.specs.Setups.{canonical, IsTrace2};
 ghost use Rattle.traces.specs.Spelling.{most_events, has_transfer, IsTrace};
 ghost use Rattle.traces.specs.declared.fault.TraceFault.{TraceFault};
 ghost use Rattle.debug_server.specs.Kinds.{IsOf, OfScript, OfSchedule, OfMemory, OfTrace};
-ghost use Rattle.debug_server.specs.Eager.{IsEager};
-ghost use Rattle.debug_server.specs.Tracing.{IsSpelling, IsTraceOf, with_schedule};
+ghost use Rattle.debug_server.specs.Tracing.{IsSpelling, IsTraceOf, IsEagerTrace, StopsEagerly};
 
 use crate::eager::eager_events;
 use crate::faults::RunFault;
@@ -36,7 +35,7 @@ pub struct Traced {
 /// Reads a script, runs its schedule, and writes the trace in the given form.
 pub fn trace_script(alloc: Global, text: &[u8], form: Form) -> Result<Traced, RunFault>
     ensures ok { IfOk result (λ t. (p : Scenario) × Reads text.now (Ok p)
-        × Accepts (start p.setup) p.schedule × IsTraceOf form p t) }
+        × Accepts (start p.setup) p.schedule × IsTraceOf form p.setup p.schedule t) }
     ensures script { IfErr result (λ e. (f : ScriptFault) → e ≡ RunFault.Script f
         → Reads text.now (Err f)) }
     ensures schedule { IfErr result (λ e. (i : ℕ) → (n : Refusal) → e ≡ RunFault.Schedule i n
@@ -48,19 +47,29 @@ pub fn trace_script(alloc: Global, text: &[u8], form: Form) -> Result<Traced, Ru
 }
 
 /// Reads a script, runs its schedule, and writes the trace of its eager run in the given form. A
-/// schedule fault names an event that the schedule's own run refuses, or else the eager one.
+/// schedule fault names the first event that the schedule's own run refuses, or else the eager one.
 pub fn trace_eager(alloc: Global, text: &[u8], form: Form) -> Result<Traced, RunFault>
-    ensures ok { IfOk result (λ t. (p : Scenario) × Reads text.now (Ok p) × (events : List Event)
-        × Accepts (start p.setup) events × IsEager p.setup p.schedule events
-        × IsTraceOf form (with_schedule p events) t) }
+    ensures ok { IfOk result (λ t. (p : Scenario) × Reads text.now (Ok p) × IsEagerTrace form p t) }
     ensures script { IfErr result (λ e. (f : ScriptFault) → e ≡ RunFault.Script f
         → Reads text.now (Err f)) }
+    ensures schedule { IfErr result (λ e. (i : ℕ) → (n : Refusal) → e ≡ RunFault.Schedule i n
+        → (p : Scenario) × Reads text.now (Ok p) × StopsEagerly p i n) }
     ensures other { IfErr result (IsOf (OfScript ∷ OfSchedule ∷ OfMemory ∷ [])) }
 {
     let script = script_of(alloc, text)?;
-    run_schedule(alloc, &script)?;
-    let events = eager_events(alloc, &script)?;
-    match spelled(alloc, &script, &events, form) {
+    Ok(trace_eagerly(alloc, &script, form)?)
+}
+
+// Writes the trace of a script's eager run in the given form.
+fn trace_eagerly(alloc: Global, script: &Script, form: Form) -> Result<Traced, RunFault>
+    ensures ok { IfOk result (λ t. IsEagerTrace form script.now t) }
+    ensures schedule { IfErr result (λ e. (i : ℕ) → (n : Refusal) → e ≡ RunFault.Schedule i n
+        → StopsEagerly script.now i n) }
+    ensures other { IfErr result (IsOf (OfSchedule ∷ OfMemory ∷ [])) }
+{
+    run_schedule(alloc, script)?;
+    let events = eager_events(alloc, script)?;
+    match spelled(alloc, script, &events, form) {
         Ok(bytes) => Ok(Traced {
             events: events.len() as u32,
             bytes,
@@ -72,7 +81,7 @@ pub fn trace_eager(alloc: Global, text: &[u8], form: Form) -> Result<Traced, Run
 // Runs a script's schedule, and writes its trace in the given form.
 fn trace_of(alloc: Global, script: &Script, form: Form) -> Result<Traced, RunFault>
     ensures ok { IfOk result (λ t. Accepts (start script.now.setup) script.now.schedule
-        × IsTraceOf form script.now t) }
+        × IsTraceOf form script.now.setup script.now.schedule t) }
     ensures schedule { IfErr result (λ e. (i : ℕ) → (n : Refusal) → e ≡ RunFault.Schedule i n
         → IsRefused script.now.setup script.now.schedule i n) }
     ensures other { IfErr result (IsOf (OfSchedule ∷ OfMemory ∷ [])) }
@@ -125,7 +134,7 @@ fn migrate_with(alloc: Global, script: &Script, trace: &[u8]) -> Result<Traced, 
     }
 }
 
-// Writes the trace of a script's setup and events in the given form.
+// Writes the trace of a script's setup and these events in the given form.
 fn spelled(
     alloc: Global,
     script: &Script,
@@ -135,7 +144,7 @@ fn spelled(
     requires few { length events.now ≤ most_events }
     requires transfers { IsTrue (list_all has_transfer events.now) }
     ensures { IfOk result (λ bytes.
-        IsSpelling form (with_schedule script.now events.now) bytes.items) }
+        IsSpelling form script.now.setup events.now bytes.items) }
 {
     match form {
         Form::Events => write_trace(alloc, events),
