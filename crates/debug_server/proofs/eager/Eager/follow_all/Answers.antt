@@ -16,7 +16,7 @@ loop-i-preserved c = record {
 
 pub returns-in_err-follow-clause-schedule : goal.returns-in_err-follow-clause-schedule
 returns-in_err-follow-clause-schedule c =
-    let p = err_from_is_err_and c.from_residual-in_err-follow.result c.from_residual-in_err-follow.ensures.1 in
+    let p = err_from_is_err_and c.from_residual.result c.from_residual.ensures.1 in
     rw (p.1, p.2) (λ k n e. stops c.args.self.now.plain c.args.self.now.state c.args.self.now.events.items c.args.schedule.now c.loop-i.i _ _ c.loop-i.self.plain c.loop-i.self.state c.loop-i.self.events.items k n
     c.loop-i-test.true c.loop-i.invariant.following (c.in_err-follow.ensures.schedule k n e) refl)
 
