@@ -11,7 +11,7 @@ spelled-requires-clause-transfers c = rw c.deref.ensures.value (all_accepted _ _
 
 pub returns-in_err-run_schedule-clause-schedule : goal.returns-in_err-run_schedule-clause-schedule
 returns-in_err-run_schedule-clause-schedule c =
-    let p = err_from_is_err_and c.from_residual-in_err-run_schedule.result c.from_residual-in_err-run_schedule.ensures.1 in
+    let p = err_from_is_err_and c.from_residual.result c.from_residual.ensures.1 in
     rw (p.1, p.2) (λ i n e. inl (c.in_err-run_schedule.ensures.schedule i n e))
 
 pub returns-in_err-events-clause-schedule : goal.returns-in_err-events-clause-schedule
