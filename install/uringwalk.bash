@@ -16,7 +16,7 @@ _uringwalk_values() {
 # Prints the options of a word.
 _uringwalk_options() {
     case $1 in
-        trace) echo "--form" ;;
+        trace) echo "--form --eager" ;;
         log | timeline) echo "--from --to" ;;
         explain) echo "--kind --allow --json" ;;
         live) echo "--turns --kernel --trace" ;;

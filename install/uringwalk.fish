@@ -37,6 +37,7 @@ set -l kinds failed short severed canceled timed-out expired not-found too-late 
     no-such-slot cut-off went-on no-effect slot-in-use closed-early closed-while-held several \
     left-running same-user-data not-durable refused-flags stuck closed-twice fsync-retried
 complete -c uringwalk -n '__uringwalk_word_is trace' -l form -x -a '1 2' -d 'The form of the trace'
+complete -c uringwalk -n '__uringwalk_word_is trace' -l eager -d 'The run of a kernel that does at once all that it can'
 complete -c uringwalk -n '__uringwalk_word_is log timeline' -l from -x -d 'The first event'
 complete -c uringwalk -n '__uringwalk_word_is log timeline' -l to -x -d 'The event after the last'
 complete -c uringwalk -n '__uringwalk_word_is explain' -l json -d 'Print JSON'

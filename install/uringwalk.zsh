@@ -44,6 +44,7 @@ _uringwalk() {
     trace)
       _arguments $usage \
         '--form=[1, the events alone, or 2, the setup and the events]:form:(1 2)' \
+        '--eager[the run of a kernel that does at once all that it can]' \
         "1:script:$script" '2:trace to write:_files'
       ;;
     migrate)

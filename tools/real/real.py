@@ -96,16 +96,16 @@ class Trial:
         check_setup(self.setup)
         check_schedule(self.schedule)
         self.built = built
-        self.eager = self.eager_run()
+        self.eager = self.eager_run(script)
         self.plan = plan.Plan(self.eager)
 
-    def eager_run(self):
+    def eager_run(self, script):
         plain = model.Run(self.program, self.setup)
         plain.extend(self.schedule)
         if self.least_length(plain) > LIMIT:
             raise kernel.NotSettled
         try:
-            return eager.made(self.program, self.setup, self.schedule, plain)
+            return eager.made(self.program, script, self.setup, self.schedule)
         except eager.OtherSchedule as it:
             raise Verdict([f"not a kernel's schedule: event {it.index}"], OTHER_SCHEDULE) from it
 

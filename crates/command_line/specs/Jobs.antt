@@ -14,7 +14,7 @@ LosesScript (Timeline run out from to) = ⊥
 LosesScript (Live script turns kernel None) = ⊥
 LosesScript (Live script turns kernel (Some out)) = out.now ≡ script.now
 LosesScript (Serve script port turns kernel clients) = ⊥
-LosesScript (Trace script out form) = out.now ≡ script.now
+LosesScript (Trace script out form eager) = out.now ≡ script.now
 LosesScript (Migrate script trace out) = out.now ≡ script.now
 
 -- The ranges of the numbers of turns and of kernel workers of a live run.

@@ -148,6 +148,7 @@ pub const KINDS: &[&str] = &[
 /// What help of the program says after its commands.
 pub const OPTIONS: &str = "Options of the commands:
   trace     --form <FORM>   Form of the trace: 1 for events only, 2 for setup and events; default 2
+            --eager         Trace the run of a kernel that does at once all that it can
   log       --from <M>      First event to print: 0 to 4294967295, default 0
             --to <N>        Event to stop before: 0 to 4294967295, default all
   explain   --kind <KIND>   Report only findings of this kind, default all; may be repeated
@@ -200,6 +201,11 @@ pub const WORDS: &[Word] = &[
                 name: "FORM",
                 help: "Form of the trace: 1 for events only, 2 for setup and events",
                 shape: Shape::Form,
+            },
+            Operand {
+                name: "eager",
+                help: "Trace the run of a kernel that does at once all that it can",
+                shape: Shape::Flag("eager"),
             },
         ],
     },

@@ -68,11 +68,12 @@ pub enum Job<'a> {
         /// 1 to 1000000.
         clients: Option<u32>,
     },
-    /// Writes the trace of a script's schedule to the file `out`.
+    /// Writes the trace of a script's schedule, or of its eager run, to the file `out`.
     Trace {
         script: &'a str,
         out: &'a str,
         form: Form,
+        eager: bool,
     },
     /// Writes a script's setup and the events of a trace of form 1 to the file `out`, as a trace of
     /// form 2.

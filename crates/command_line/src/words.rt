@@ -149,6 +149,7 @@ fn job_of<'a>(
             script,
             out,
             form: form_of(matches),
+            eager: matches.get_flag("eager"),
         },
         Verb::Migrate => Job::Migrate {
             script,

@@ -12,6 +12,7 @@ pub mod Stopping
 pub mod Moving
 pub mod Faulting
 pub mod Stepping
+pub mod EagerRuns
 pub mod Walks
 pub mod Again
 pub mod SessionsAgain

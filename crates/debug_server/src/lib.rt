@@ -2,6 +2,7 @@
 #![tactic(auto)]
 
 mod answering;
+mod eager;
 mod faults;
 pub mod laws;
 mod lines;
@@ -27,5 +28,5 @@ pub use scripts::script_of;
 pub use serving::serve;
 pub use session::Session;
 pub use source::{NoSource, Source};
-pub use tracing::{Traced, migrate_trace, trace_script};
+pub use tracing::{Traced, migrate_trace, trace_eager, trace_script};
 pub use walking::{walk, walk_events};

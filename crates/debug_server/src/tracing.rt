@@ -11,8 +11,9 @@ ghost use Rattle.traces.specs.Setups.{canonical, IsTrace2};
 ghost use Rattle.traces.specs.Spelling.{most_events, has_transfer, IsTrace};
 ghost use Rattle.traces.specs.declared.fault.TraceFault.{TraceFault};
 ghost use Rattle.debug_server.specs.Kinds.{IsOf, OfScript, OfSchedule, OfMemory, OfTrace};
-ghost use Rattle.debug_server.specs.Tracing.{IsSpelling, IsTraceOf};
+ghost use Rattle.debug_server.specs.Tracing.{IsSpelling, IsTraceOf, IsEagerTrace, StopsEagerly};
 
+use crate::eager::eager_events;
 use crate::faults::RunFault;
 use crate::running::run_schedule;
 use crate::scripts::script_of;
@@ -34,7 +35,7 @@ pub struct Traced {
 /// Reads a script, runs its schedule, and writes the trace in the given form.
 pub fn trace_script(alloc: Global, text: &[u8], form: Form) -> Result<Traced, RunFault>
     ensures ok { IfOk result (λ t. (p : Scenario) × Reads text.now (Ok p)
-        × Accepts (start p.setup) p.schedule × IsTraceOf form p t) }
+        × Accepts (start p.setup) p.schedule × IsTraceOf form p.setup p.schedule t) }
     ensures script { IfErr result (λ e. (f : ScriptFault) → e ≡ RunFault.Script f
         → Reads text.now (Err f)) }
     ensures schedule { IfErr result (λ e. (i : ℕ) → (n : Refusal) → e ≡ RunFault.Schedule i n
@@ -45,16 +46,48 @@ pub fn trace_script(alloc: Global, text: &[u8], form: Form) -> Result<Traced, Ru
     Ok(trace_of(alloc, &script, form)?)
 }
 
+/// Reads a script, runs its schedule, and writes the trace of its eager run in the given form. A
+/// schedule fault names the first event that the schedule's own run refuses, or else the eager one.
+pub fn trace_eager(alloc: Global, text: &[u8], form: Form) -> Result<Traced, RunFault>
+    ensures ok { IfOk result (λ t. (p : Scenario) × Reads text.now (Ok p) × IsEagerTrace form p t) }
+    ensures script { IfErr result (λ e. (f : ScriptFault) → e ≡ RunFault.Script f
+        → Reads text.now (Err f)) }
+    ensures schedule { IfErr result (λ e. (i : ℕ) → (n : Refusal) → e ≡ RunFault.Schedule i n
+        → (p : Scenario) × Reads text.now (Ok p) × StopsEagerly p i n) }
+    ensures other { IfErr result (IsOf (OfScript ∷ OfSchedule ∷ OfMemory ∷ [])) }
+{
+    let script = script_of(alloc, text)?;
+    Ok(trace_eagerly(alloc, &script, form)?)
+}
+
+// Writes the trace of a script's eager run in the given form.
+fn trace_eagerly(alloc: Global, script: &Script, form: Form) -> Result<Traced, RunFault>
+    ensures ok { IfOk result (λ t. IsEagerTrace form script.now t) }
+    ensures schedule { IfErr result (λ e. (i : ℕ) → (n : Refusal) → e ≡ RunFault.Schedule i n
+        → StopsEagerly script.now i n) }
+    ensures other { IfErr result (IsOf (OfSchedule ∷ OfMemory ∷ [])) }
+{
+    run_schedule(alloc, script)?;
+    let events = eager_events(alloc, script)?;
+    match spelled(alloc, script, &events, form) {
+        Ok(bytes) => Ok(Traced {
+            events: events.len() as u32,
+            bytes,
+        }),
+        Err(_) => Err(RunFault::Memory),
+    }
+}
+
 // Runs a script's schedule, and writes its trace in the given form.
 fn trace_of(alloc: Global, script: &Script, form: Form) -> Result<Traced, RunFault>
     ensures ok { IfOk result (λ t. Accepts (start script.now.setup) script.now.schedule
-        × IsTraceOf form script.now t) }
+        × IsTraceOf form script.now.setup script.now.schedule t) }
     ensures schedule { IfErr result (λ e. (i : ℕ) → (n : Refusal) → e ≡ RunFault.Schedule i n
         → IsRefused script.now.setup script.now.schedule i n) }
     ensures other { IfErr result (IsOf (OfSchedule ∷ OfMemory ∷ [])) }
 {
     run_schedule(alloc, script)?;
-    match spelled(alloc, script, form) {
+    match spelled(alloc, script, script.schedule(), form) {
         Ok(bytes) => Ok(Traced {
             events: script.schedule().len() as u32,
             bytes,
@@ -101,13 +134,21 @@ fn migrate_with(alloc: Global, script: &Script, trace: &[u8]) -> Result<Traced, 
     }
 }
 
-// Writes the trace of a script's schedule in the given form.
-fn spelled(alloc: Global, script: &Script, form: Form) -> Result<Vec<u8>, AllocError>
-    ensures { IfOk result (λ bytes. IsSpelling form script.now bytes.items) }
+// Writes the trace of a script's setup and these events in the given form.
+fn spelled(
+    alloc: Global,
+    script: &Script,
+    events: &[Event],
+    form: Form,
+) -> Result<Vec<u8>, AllocError>
+    requires few { length events.now ≤ most_events }
+    requires transfers { IsTrue (list_all has_transfer events.now) }
+    ensures { IfOk result (λ bytes.
+        IsSpelling form script.now.setup events.now bytes.items) }
 {
     match form {
-        Form::Events => write_trace(alloc, script.schedule()),
-        Form::Whole => whole_of(alloc, script, script.schedule()),
+        Form::Events => write_trace(alloc, events),
+        Form::Whole => whole_of(alloc, script, events),
     }
 }
 

@@ -221,6 +221,9 @@ stays_after m (Tick d) h = self m.table
 
 -- ---- All requests below an index
 
+pub below_none : (rows : List Row) → EndedBelow rows 0
+below_none rows = record { each = λ r l. absurd (omega arith) }
+
 pub below_after : (m n : Machine) (e : Event) (first : ℕ) → refusal m e ≡ None → n ≡ after m e → EndedBelow m.table first → EndedBelow n.table first
 below_after m n e first accepted next b = record {
   each = λ r l. let x = b.each r l in let y = stays_after m e accepted r x.0 x.1 x.2 in (y.0, ap (λ (s : Machine). slice_get s.table r) next ∙ y.1, y.2);

@@ -81,6 +81,20 @@ ends m =
 abbrev pub works : Machine → Option Event
 works m = or_else (on_row Issuing (least_row m Issuing)) (ends m)
 
+-- Whether an event advances the clock.
+abbrev pub is_tick : Event → Bool
+is_tick (Tick d) = true
+is_tick event = false
+
+-- The event, unless it advances the clock.
+abbrev pub at_once : Option Event → Option Event
+at_once None = None
+at_once (Some event) = if is_tick event then None else Some event
+
+-- What a kernel worker can do at once: its next event, unless that advances the clock.
+abbrev pub eager_offer : Machine → Option Event
+eager_offer m = at_once (works m)
+
 -- ---- All actors
 
 -- The next event of an actor, if it has one, by its kind.

@@ -16,6 +16,7 @@ pub use closed::Closed;
 pub use finishing::{Torn, finish};
 pub use kinds::actors;
 pub use lives::{Live, LiveRefusal};
+pub use offering::eager_offer;
 pub use receipt::Receipt;
 pub use running::{ForActor, LiveFault, Running, close, join_all, run_live, start_all};
 pub use seat::Seat;

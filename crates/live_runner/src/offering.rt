@@ -3,7 +3,7 @@ ghost use Rattle.std.specs.Prelude.{◌≡◌, Some, None, if◌then◌else◌};
 ghost use Rattle.machine.specs.Deadlines.{deadline_at};
 ghost use Rattle.machine.specs.Whole.{WellFormed};
 ghost use Rattle.live_runner.specs.Least.{or_else, smaller_of};
-ghost use Rattle.live_runner.specs.Offers.{submits, polls, works, ends, on_row, least_row, may_do, event_on, ticks_to, offer};
+ghost use Rattle.live_runner.specs.Offers.{submits, polls, works, ends, on_row, least_row, may_do, event_on, ticks_to, offer, is_tick, eager_offer};
 ghost use Rattle.live_runner.specs.Passing.{EndedBelow, is_reached};
 ghost use Rattle.live_runner.specs.declared.offering.Action.TheVariants.{Issuing, Finishing, Expiring};
 
@@ -42,6 +42,25 @@ pub(crate) fn offer(
     } else {
         works(state, first)
     }
+}
+
+/// Returns a kernel worker's next event, unless it has none or that advances the clock. Allocates no
+/// memory.
+pub fn eager_offer(state: &State) -> Option<Event>
+    ensures { result ≡ eager_offer state.now }
+{
+    let event = works(state, 0)?;
+    if is_tick(event) {
+        return None;
+    }
+    Some(event)
+}
+
+// Returns whether an event advances the clock.
+fn is_tick(event: Event) -> bool
+    ensures { result ≡ is_tick event }
+{
+    matches!(event, Event::Tick(_))
 }
 
 /// Returns the first request from `from` on that is queued or issued, or `from` if there is none.

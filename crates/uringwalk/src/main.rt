@@ -18,7 +18,8 @@ mod serving;
 use checking::check_file;
 use clap::error::ErrorKind;
 use debug_server::{
-    Fault, Form, Job, RunFault, ServeFault, Traced, job, migrate_trace, replay, trace_script, walk,
+    Fault, Form, Job, RunFault, ServeFault, Traced, job, migrate_trace, replay, trace_eager,
+    trace_script, walk,
 };
 use drawing::draw_file;
 use explaining::explain_files;
@@ -96,15 +97,20 @@ fn keep(rt: &(impl Files + Print + AllocGlobal), out: &str, trace: &Traced) -> R
     }
 }
 
-// The `trace` subcommand: runs a script's schedule, and writes the trace to a file.
+// The `trace` subcommand: writes the trace of a script's schedule, or of its eager run, to a file.
 fn trace_file(
     rt: &(impl Files + Print + AllocGlobal),
     script: &str,
     out: &str,
     form: Form,
+    eager: bool,
 ) -> Result<(), Fault> {
     let text = read_file(rt, script, SCRIPT_AND_ONE).map_err(file_fault)?;
-    keep(rt, out, &trace_script(rt.alloc(), &text, form)?)
+    if eager {
+        keep(rt, out, &trace_eager(rt.alloc(), &text, form)?)
+    } else {
+        keep(rt, out, &trace_script(rt.alloc(), &text, form)?)
+    }
 }
 
 // The `migrate` subcommand: writes a script's setup and the events of a trace of form 1 to a file.
@@ -167,7 +173,12 @@ fn run<
             kernel,
             clients,
         } => done(serve_file(rt, script, port, turns, kernel, clients)),
-        Job::Trace { script, out, form } => done(trace_file(rt, script, out, form)),
+        Job::Trace {
+            script,
+            out,
+            form,
+            eager,
+        } => done(trace_file(rt, script, out, form, eager)),
         Job::Migrate { script, trace, out } => done(migrate_file(rt, script, trace, out)),
     }
 }

@@ -1,0 +1,155 @@
+-- The eager run of a schedule, event by event.
+use Rattle.std.proofs.Common.{◌≡◌, ◌⊎◌, inl, inr, ℕ, ◌+◌, ◌<◌, ◌≤◌, Bool, true, false, List, [], ◌∷◌, ◌++◌, length, take, get_or, append-nil, append_assoc, Result, Ok, Err, refl, sym, ap, ◌∙◌, subst}
+use Rattle.std.specs.Prelude.{Option, Some, None, OnOk, slice_get}
+use Rattle.std.proofs.lemmas.List.{take_more, take_all}
+use Rattle.std.proofs.lemmas.Option.{slice_get-get_or}
+use Rattle.scenario.specs.declared.event.Event.{Event}
+use Rattle.scenario.specs.declared.event.Refusal.{Refusal}
+use Rattle.scenario.specs.declared.event.Refusal.TheVariants.{Memory}
+use Rattle.scenario.specs.declared.setup.Setup.{Setup}
+use Rattle.machine.specs.declared.whole.Machine.{Machine}
+use Rattle.machine.specs.Steps.{refusal, after}
+use Rattle.machine.specs.Runs.{run, start, Accepts}
+use Rattle.inverse_log.proofs.Runs.{run-append, run-push, accepts-append}
+use Rattle.live_runner.specs.Offers.{eager_offer}
+use Rattle.debug_server.specs.Eager.{Adds, IsWork, FollowsOne, Follows, RefusesOne, Stops, IsEager, IsRefusedEagerly, is_due}
+use Rattle.debug_server.specs.Kinds.{IsOf, OfSchedule, OfMemory}
+use Rattle.debug_server.specs.Schedules.{fault_by}
+use Rattle.debug_server.specs.declared.faults.RunFault.{RunFault}
+use Rattle.debug_server.specs.declared.faults.RunFault.TheVariants.{Schedule, Memory as OutOfMemory}
+
+-- ---- Events that are added
+
+adds_none : (m : Machine) (before : List Event) → Adds m before [] m before
+adds_none m before = record { accepts = tt; here = refl; there = sym (append-nil before) }
+
+pub adds_one : (m n : Machine) (before events : List Event) (e : Event) → refusal m e ≡ None → n ≡ after m e → events ≡ before ++ e ∷ [] → Adds m before (e ∷ []) n events
+adds_one m n before events e accepted here there = record { accepts = (accepted, tt); here = here; there = there }
+
+adds_both : (m n o : Machine) (before es events fs more : List Event) → Adds m before es n events → Adds n events fs o more → Adds m before (es ++ fs) o more
+adds_both m n o before es events fs more a b = record {
+  accepts = accepts-append m es fs a.accepts (subst (λ (x : Machine). Accepts x fs) a.here b.accepts);
+  here = b.here ∙ ap (λ (x : Machine). run x fs) a.here ∙ sym (run-append m es fs);
+  there = b.there ∙ ap (λ (x : List Event). x ++ fs) a.there ∙ append_assoc before es fs;
+}
+
+-- ---- What kernel workers do at once
+
+-- What they did so far: with what they can do from here on it is all that they can do.
+pub record Working (m : Machine) (before : List Event) (n : Machine) (events : List Event) : Type 0 where
+  pub work : List Event
+  pub adds : Adds m before work n events
+  pub completes : (rest : List Event) → IsWork n rest → IsWork m (work ++ rest)
+
+pub works_yet : (m : Machine) (before : List Event) → Working m before m before
+works_yet m before = record { work = []; adds = adds_none m before; completes = λ rest h. h }
+
+pub works_on : (m n o : Machine) (before events more : List Event) (e : Event) → Working m before n events → eager_offer n ≡ Some e → Adds n events (e ∷ []) o more → Working m before o more
+works_on m n o before events more e w offered a = record {
+  work = w.work ++ e ∷ [];
+  adds = adds_both m n o before w.work events (e ∷ []) more w.adds a;
+  completes = λ rest h. subst (λ (x : List Event). IsWork m x) (sym (append_assoc w.work (e ∷ []) rest)) (w.completes (e ∷ rest) (offered, subst (λ (x : Machine). IsWork x rest) a.here h));
+}
+
+pub worked : (m n : Machine) (before events : List Event) → Working m before n events → eager_offer n ≡ None → (work : List Event) × IsWork m work × Adds m before work n events
+worked m n before events w none = (w.work, subst (λ (x : List Event). IsWork m x) (append-nil w.work) (w.completes [] none), w.adds)
+
+-- ---- One event of the schedule
+
+pub not_due : (b : Bool) (m : Machine) (e : Event) (before : List Event) → b ≡ false → (added : List Event) × FollowsOne b m e added × Adds m before added m before
+not_due false m e before h = ([], refl, adds_none m before)
+not_due true m e before h = absurd (cc)
+
+pub due : (b : Bool) (m n o : Machine) (e : Event) (before events more : List Event) → b ≡ true → Adds m before (e ∷ []) n events
+    → (work : List Event) × IsWork n work × Adds n events work o more → (added : List Event) × FollowsOne b m e added × Adds m before added o more
+due true m n o e before events more h a w =
+    (e ∷ w.0, (w.0, refl, subst (λ (x : Machine). IsWork x w.0) a.here w.1), adds_both m n o before (e ∷ []) events w.0 more a w.2)
+due false m n o e before events more h a w = absurd (cc)
+
+-- The fault of an event that is refused has its index and the reason.
+named : (at : ℕ) (n : Refusal) (i : ℕ) (k : Refusal) → fault_by at n ≡ Schedule i k → (i ≡ at) × (n ≡ k)
+named at Memory i k h = absurd (cc)
+named at n i k h = let same : i ≡ at = cc in let reason : n ≡ k = cc in (same, reason)
+
+no_memory : (at i : ℕ) (n k : Refusal) → n ≡ Memory → fault_by at n ≡ Schedule i k → ⊥
+no_memory at i n k m h = let none : fault_by at n ≡ OutOfMemory = ap (λ (x : Refusal). fault_by at x) m in absurd (cc)
+
+pub refused_by : (at : ℕ) (o : Option Refusal) (n : Refusal) → (o ≡ Some n) ⊎ (n ≡ Memory) → (i : ℕ) (k : Refusal) → fault_by at n ≡ Schedule i k → (i ≡ at) × (o ≡ Some k)
+refused_by at o n (inl e) i k h = let it = named at n i k h in (it.0, e ∙ ap Some it.1)
+refused_by at o n (inr e) i k h = absurd (no_memory at i n k e h)
+
+pub of_fault : (at : ℕ) (n : Refusal) → IsOf (OfSchedule ∷ OfMemory ∷ []) (fault_by at n)
+of_fault at Memory = refl
+of_fault at n = refl
+
+-- A step was refused by a rule, or for lack of memory.
+pub step_refused : (o : Option Refusal) (n : Refusal) → ((k : Refusal) → o ≡ Some k → n ≡ k) → (o ≡ None → n ≡ Memory) → (o ≡ Some n) ⊎ (n ≡ Memory)
+step_refused (Some k) n refused memory = inl (ap Some (sym (refused k refl)))
+step_refused None n refused memory = inr (memory refl)
+
+-- ---- A schedule
+
+-- The eager run of the first i events of a schedule.
+pub record Following (first begun : Machine) (before es : List Event) (i : ℕ) (plain m : Machine) (events : List Event) : Type 0 where
+  pub made : List Event
+  pub adds : Adds begun before made m events
+  pub plainly : plain ≡ run first (take i es)
+  pub follows : Follows first begun (take i es) made
+
+pub follows_yet : (plain m : Machine) (before es : List Event) → Following plain m before es 0 plain m before
+follows_yet plain m before es = record { made = []; adds = adds_none m before; plainly = refl; follows = refl }
+
+-- What an event adds at the end of a schedule.
+follows_push : (plain m : Machine) (es made added : List Event) (e : Event) → Follows plain m es made → FollowsOne (is_due (run plain (es ++ e ∷ [])) (run m made) e) (run m made) e added → Follows plain m (es ++ e ∷ []) (made ++ added)
+follows_push plain m [] made added e h one =
+    (added, [], ap (λ (x : List Event). x ++ added) h ∙ sym (append-nil added), subst (λ (x : List Event). FollowsOne (is_due (after plain e) (run m x) e) (run m x) e added) h one, refl)
+follows_push plain m (f ∷ es) made added e h one =
+    let here : run m made ≡ run (run m h.0) h.1 = ap (λ (x : List Event). run m x) h.2 ∙ run-append m h.0 h.1 in
+    let now = subst (λ (x : Machine). FollowsOne (is_due (run (after plain f) (es ++ e ∷ [])) x e) x e added) here one in
+    (h.0, h.1 ++ added, ap (λ (x : List Event). x ++ added) h.2 ∙ append_assoc h.0 h.1 added, h.3, follows_push (after plain f) (run m h.0) es h.1 added e h.4 now)
+
+pub follows_on : (first begun : Machine) (before es : List Event) (i : ℕ) (e d : Event) (plain m next n : Machine) (events more : List Event) → i < length es
+    → Following first begun before es i plain m events → next ≡ after plain e
+    → (added : List Event) × FollowsOne (is_due (after plain e) m e) m e added × Adds m events added n more
+    → e ≡ get_or es i d → Following first begun before es (i + 1) next n more
+follows_on first begun before es i e d plain m next n events more within f step one there =
+    let longer : take (i + 1) es ≡ take i es ++ e ∷ [] = take_more es i d within ∙ ap (λ (x : Event). take i es ++ x ∷ []) (sym there) in
+    let later : after plain e ≡ run first (take i es ++ e ∷ []) = ap (λ (x : Machine). after x e) f.plainly ∙ sym (run-push first (take i es) e) in
+    let now = subst (λ (x : Machine). FollowsOne (is_due (run first (take i es ++ e ∷ [])) x e) x e one.0) f.adds.here (subst (λ (x : Machine). FollowsOne (is_due x m e) m e one.0) later one.1) in
+    record {
+      made = f.made ++ one.0;
+      adds = adds_both begun m n before f.made events one.0 more f.adds one.2;
+      plainly = step ∙ later ∙ ap (λ (x : List Event). run first x) (sym longer);
+      follows = subst (λ (x : List Event). Follows first begun x (f.made ++ one.0)) (sym longer) (follows_push first begun (take i es) f.made one.0 e f.follows now);
+    }
+
+pub followed : (first begun plain m : Machine) (before es events : List Event) (i : ℕ) → length es ≤ i → Following first begun before es i plain m events
+    → (made : List Event) × Follows first begun es made × Adds begun before made m events
+followed first begun plain m before es events i end f = (f.made, subst (λ (x : List Event). Follows first begun x f.made) (take_all i es end) f.follows, f.adds)
+
+-- The next event is refused.
+pub stops : (first begun : Machine) (before es : List Event) (i : ℕ) (e d : Event) (plain m : Machine) (events : List Event) (k : ℕ) (n : Refusal) → i < length es
+    → Following first begun before es i plain m events → (k ≡ i) × RefusesOne plain m e n → e ≡ get_or es i d → Stops first begun es k n
+stops first begun before es i e d plain m events k n within f refused there =
+    let by_plain : RefusesOne (run first (take i es)) m e n = subst (λ (x : Machine). RefusesOne x m e n) f.plainly refused.1 in
+    subst (λ (x : ℕ). Stops first begun es x n) (sym refused.0) (record {
+      made = f.made;
+      follows = f.follows;
+      accepts = f.adds.accepts;
+      event = e;
+      there = slice_get-get_or es i d within ∙ ap Some (sym there);
+      refused = subst (λ (x : Machine). RefusesOne (run first (take i es)) x e n) f.adds.here by_plain;
+    })
+
+-- The eager run of a schedule from the start of a setup.
+pub from_start : (setup : Setup) (plain m n : Machine) (es before events : List Event) → plain ≡ start setup → m ≡ start setup → before ≡ []
+    → (made : List Event) × Follows plain m es made × Adds m before made n events
+    → Accepts (start setup) events × IsEager setup es events
+from_start setup plain m n es before events p q none f =
+    let all : f.0 ≡ events = sym (f.2.there ∙ ap (λ (x : List Event). x ++ f.0) none) in
+    (subst (λ (x : Machine). Accepts x events) q (subst (λ (x : List Event). Accepts m x) all f.2.accepts),
+    subst (λ (x : Machine). Follows x (start setup) es events) p (subst (λ (x : Machine). Follows plain x es events) q (subst (λ (x : List Event). Follows plain m es x) all f.1)))
+
+pub stops_from_start : (setup : Setup) (plain m : Machine) (es : List Event) (i : ℕ) (n : Refusal) → plain ≡ start setup → m ≡ start setup → Stops plain m es i n → IsRefusedEagerly setup es i n
+stops_from_start setup plain m es i n p q s =
+    subst (λ (x : Machine). Stops x (start setup) es i n) p (subst (λ (x : Machine). Stops plain x es i n) q s)
