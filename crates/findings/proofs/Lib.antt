@@ -14,4 +14,6 @@ pub mod Lasting
 pub mod Left
 pub mod Alike
 pub mod Durability
+pub mod Blocked
+pub mod Threads
 pub mod Followed

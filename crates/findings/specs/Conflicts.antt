@@ -31,6 +31,7 @@ use Rattle.findings.specs.declared.effect.Effect.{Effect}
 use Rattle.findings.specs.declared.effect.Effect.TheVariants.{Nothing, Stored, Finished}
 use Rattle.finding_kinds.specs.declared.kind.ConflictKind.{ConflictKind}
 use Rattle.finding_kinds.specs.declared.kind.ConflictKind.TheVariants.{BufferInUse, Unordered, SharedPosition, FsyncEarly}
+use Rattle.finding_kinds.specs.declared.kind.Verdict.TheVariants.{Fault, Note}
 use Rattle.findings.specs.Conditions.{done_by}
 
 -- ---- the effect of an event
@@ -176,7 +177,8 @@ abbrev pub would_conflict : ConflictKind → Setup → Machine → ℕ → Row �
 would_conflict BufferInUse s m r done q row = (done.entry.opcode == 22) && is_in_buffer done.entry.addr (moved done.phase) row
 would_conflict Unordered s m r done q row = is_one_write done.entry row.entry && (is_over s m (moved done.phase) done.entry row && is_same_file s done.entry row.entry)
 would_conflict SharedPosition s m r done q row = (nat_lt 0 (moved done.phase) && nat_lt 0 row.entry.len) && is_by_position s done.entry row.entry
-would_conflict FsyncEarly s m r done q row = is_synced_early s r done q row
+would_conflict (FsyncEarly Fault) s m r done q row = false
+would_conflict (FsyncEarly Note) s m r done q row = is_synced_early s r done q row
 
 -- Whether a store to memory conflicts with an incomplete READ or WRITE:
 --   BufferInUse: the bytes are in its buffer.

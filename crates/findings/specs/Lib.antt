@@ -3,6 +3,7 @@ pub mod Uses
 pub mod Conditions
 pub mod Conflicts
 pub mod Canceling
+pub mod AtEnd
 pub mod Watched
 pub mod Findings
 pub mod Records

@@ -10,7 +10,7 @@ use crate::files::{is_same_descriptor, is_same_file};
 use crate::leftover::row_at;
 use crate::transition::Transition;
 use entries::{IOSQE_IO_DRAIN, Phase, Row, Sqe};
-use finding_kinds::{ConflictKind, MOST_ROWS, descriptor_number};
+use finding_kinds::{ConflictKind, MOST_ROWS, Verdict, descriptor_number};
 use links_drains::{is_guard, is_issued, is_unfinished};
 use machine::{Setup, State};
 use opcodes::Op;
@@ -245,7 +245,10 @@ fn would_conflict(
         ConflictKind::SharedPosition => {
             (0 < count && 0 < row.entry.len) && is_by_position(at.setup, &done.entry, &row.entry)
         }
-        ConflictKind::FsyncEarly => is_synced_early(at.setup, number, done, other, row),
+        ConflictKind::FsyncEarly(Verdict::Fault) => false,
+        ConflictKind::FsyncEarly(Verdict::Note) => {
+            is_synced_early(at.setup, number, done, other, row)
+        }
     }
 }
 
