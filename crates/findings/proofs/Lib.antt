@@ -15,5 +15,6 @@ pub mod Left
 pub mod Alike
 pub mod Durability
 pub mod Blocked
+pub mod StuckSteps
 pub mod Threads
 pub mod Followed

@@ -10,6 +10,8 @@ use Rattle.places.specs.declared.value.Stage.{Stage}
 use Rattle.places.specs.declared.value.Stage.TheVariants.{Ready, Waiting}
 use Rattle.scenario.specs.declared.event.Event.{Event}
 use Rattle.scenario.specs.declared.event.Event.TheVariants.{Step}
+use Rattle.scenario.specs.declared.event.Refusal.{Refusal}
+use Rattle.scenario.specs.declared.event.Refusal.TheVariants.{SqFull, NothingToReap}
 use Rattle.scenario.specs.declared.setup.Instruction.{Instruction}
 use Rattle.scenario.specs.declared.setup.Instruction.TheVariants.{Put, Push, Enter, Reap, Close}
 use Rattle.scenario.specs.declared.setup.Setup.{Setup}
@@ -109,7 +111,14 @@ is_blocked m (Push index) = waiting m.submissions.head m.submissions.tail == len
 is_blocked m Reap = ready_count m == 0
 is_blocked m x = false
 
--- Whether a thread of the setup is ready, and its next instruction can't be done yet.
+-- Whether the state of a ring is why an event is refused.
+abbrev pub is_of_ring : Option Refusal → Bool
+is_of_ring (Some SqFull) = true
+is_of_ring (Some NothingToReap) = true
+is_of_ring o = false
+
+-- Whether a thread of the setup is ready, and its next instruction can't be done yet. In a run that
+-- is so exactly if a ring is why its next step is refused (`laws.rt`).
 abbrev pub is_stuck : Setup → Machine → ℕ → Bool
 is_stuck s m t = nat_lt t (length s.threads) && (option_map_or (is_blocked m) (done_by s m (Step t)) false && is_ready m t)
 

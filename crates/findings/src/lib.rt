@@ -10,6 +10,7 @@ mod effect;
 mod ends;
 mod files;
 mod following;
+pub mod laws;
 mod leftover;
 mod noting;
 mod ordering;

@@ -10,7 +10,6 @@ ghost use Rattle.finding_kinds.specs.Values.{byte_in, differ};
 
 use crate::files::file_of;
 use crate::leftover::row_at;
-use crate::record::add_if;
 use crate::watching::fault_if;
 use entries::Row;
 use finding_kinds::{Finding, Kind, LeftKind, MOST_ROWS, differs_at, number_at};
@@ -96,12 +95,13 @@ fn add_unsynced(
     if !has_unsynced(state, object) {
         return Ok(());
     }
-    let finding = Finding {
+    let verdict = fault_if(has_fsync(setup, state, object));
+    found.push(Finding {
         moment,
-        kind: Kind::Left(LeftKind::NotDurable(fault_if(has_fsync(setup, state, object)))),
+        kind: Kind::Left(LeftKind::NotDurable(verdict)),
         subject: object,
-    };
-    add_if(found, true, finding)
+    })?;
+    Ok(())
 }
 
 /// Adds a finding for each file that isn't durable.
