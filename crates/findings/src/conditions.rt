@@ -3,7 +3,7 @@ ghost use Rattle.std.specs.Prelude.{◌≡◌, ◌==◌, false, length};
 ghost use Rattle.std.specs.Option.{option_map_or};
 ghost use Rattle.links_drains.specs.Links.{has_flag};
 ghost use Rattle.ring_words.specs.Rings.{waiting};
-ghost use Rattle.findings.specs.Conditions.{needs_wake_up, overflows, has_entries, has_completions, counter_of, answer_of, has_closed, is_of_step, waits, is_ready, is_blocked, is_stuck, condition_holds};
+ghost use Rattle.findings.specs.Conditions.{needs_wake_up, overflows, has_entries, has_completions, counter_of, answer_of, has_closed, is_of_step, waits, is_ready, is_blocked, is_any_blocked, is_stuck, condition_holds};
 ghost use Rattle.findings.specs.Endings.{is_error, is_less};
 ghost use Rattle.findings.specs.Searching.{facts_before};
 
@@ -254,15 +254,22 @@ fn is_blocked(state: &State, instruction: &Instruction) -> bool
     }
 }
 
+// Returns whether a push or a reap can't be done yet.
+fn is_any_blocked(state: &State) -> bool
+    ensures { result ≡ is_any_blocked state.now }
+{
+    state.completions().is_empty() || is_full(state)
+}
+
 // Returns whether a thread of the setup is ready, and its next instruction is a push or a reap that
-// can't be done yet. Looks at the rings first, since most often neither blocks a thread.
+// can't be done yet. Looks at the rings before the thread, which costs less.
 fn is_stuck(setup: &Setup, state: &State, thread: u32) -> bool
     ensures { result ≡ is_stuck setup.now state.now thread }
 {
     if thread as usize >= setup.threads.as_slice().len() {
         return false;
     }
-    if !state.completions().is_empty() && !is_full(state) {
+    if !is_any_blocked(state) {
         return false;
     }
     let step = Event::Step(thread);

@@ -118,10 +118,6 @@ due_before : (now next : ℕ) (o : Option Row) → ((t : ℕ) → option_map_or 
 due_before now next None h x = x
 due_before now next (Some row) h x = due_phase now next row row.phase (is_timer row.entry.opcode) row.deadline refl refl refl h x
 
-tick_within : (k : ℕ) (b : Bool) → nat_lt k (2 ^ 64) ≡ b → (if b then None else Some ClockFull) ≡ None → nat_lt k (2 ^ 64) ≡ true
-tick_within k true g h = g
-tick_within k false g h = absurd (cc)
-
 both_ticks : (m : Machine) (d n : ℕ) → refusal (after m (Tick d)) (Tick n) ≡ None → refusal m (Tick (d + n)) ≡ None
 both_ticks m d n h = let same : m.clock + (d + n) ≡ m.clock + d + n = omega arith in
     ap (λ (k : ℕ). if nat_lt k (2 ^ 64) then None else Some ClockFull) same ∙ h
