@@ -1,8 +1,7 @@
--- Requests that have completed, and threads that don't exist, refuse each event.
-use Rattle.std.proofs.Common.{◌≡◌, ℕ, Bool, true, false, refl, sym, ap, ◌∙◌, subst, length, inl, inr, ◌⊎◌, ◌≤◌, ◌<◌, ◌+◌, ◌^◌, arith, if◌then◌else◌, List}
-use Rattle.std.specs.Prelude.{◌≢◌, Option, Some, None, is_none, slice_get, nat_lt}
-use Rattle.std.proofs.lemmas.Bool.{cases_lt, ltb-true}
-use Rattle.std.proofs.lemmas.Option.{slice_get_past}
+-- A completed request is at rest, and so is one that refuses to be issued, to finish and to expire.
+use Rattle.std.proofs.Common.{◌≡◌, ℕ, Bool, true, false, refl, subst, inl, inr, ◌⊎◌, ◌≤◌, ◌<◌, ◌+◌, ◌^◌, arith, if◌then◌else◌, List}
+use Rattle.std.specs.Prelude.{◌≢◌, Option, Some, None, is_none, slice_get}
+use Rattle.std.proofs.lemmas.Bool.{cases_lt}
 use Rattle.entries.specs.declared.row.Row.{Row}
 use Rattle.entries.specs.declared.row.Phase.{Phase}
 use Rattle.entries.specs.declared.row.Phase.TheVariants.{Queued, Issued, Ended}
@@ -15,15 +14,14 @@ use Rattle.links_drains.specs.Numbered.{IsNextWhere, NoneWhere}
 use Rattle.links_drains.specs.Units.{is_open}
 use Rattle.model_files.specs.Worlds.{WorldState}
 use Rattle.timeouts_cancel.specs.Timers.{is_due}
-use Rattle.scenario.specs.declared.event.Event.{Event}
-use Rattle.scenario.specs.declared.event.Event.TheVariants.{Step, Take, Sleep, Issue, Finish, Expire, Tick}
+use Rattle.scenario.specs.declared.event.Event.TheVariants.{Issue, Finish, Expire}
 use Rattle.scenario.specs.declared.event.Refusal.{Refusal}
-use Rattle.scenario.specs.declared.event.Refusal.TheVariants.{NoSuchThread, WrongPhase, NotDue, ClockFull}
+use Rattle.scenario.specs.declared.event.Refusal.TheVariants.{WrongPhase, NotDue}
 use Rattle.machine.specs.declared.whole.Machine.{Machine}
 use Rattle.machine.specs.Deadlines.{deadline_at, issued_deadline}
-use Rattle.machine.specs.Steps.{refusal, start_refusal, issue_refusal, phase_refusal, choice_refusal, finish_refusal, expire_refusal, thread_refusal}
+use Rattle.machine.specs.Steps.{refusal, start_refusal, issue_refusal, phase_refusal, choice_refusal, finish_refusal, expire_refusal}
 use Rattle.std.specs.Option.{option_map_or}
-use Rattle.quiescence.specs.Over.{IsIdle, IsOver, IsActive, NoStep, NoTake, IsAtRest, AllAtRest}
+use Rattle.quiescence.specs.Over.{IsAtRest, AllAtRest}
 use Rattle.quiescence.proofs.InFull.{finishes_in_full}
 
 -- ---- completed requests
@@ -106,37 +104,3 @@ rest_end m from before none k = elim (cases_lt k from) [
   | inl low ↦ before k low
   | inr high ↦ closed_at_rest m k (λ row e. none k row high e)
 ]
-
--- ---- threads
-
-pub no_step : (m : Machine) (n : ℕ) → length m.threads ≤ n → ((k : ℕ) → k < n → is_none (refusal m (Step k)) ≡ false) → NoStep m
-no_step m n few refused t h = elim (cases_lt t n) [
-  | inl below ↦ some_refused (refusal m (Step t)) (refused t below) h
-  | inr past ↦
-      let none : refusal m (Step t) ≡ Some NoSuchThread = ap (thread_refusal m) (slice_get_past m.threads t (omega (arith, few, past))) in
-      absurd (cc)
-]
-
--- ---- the whole machine
-
--- A machine with an active event isn't over.
-pub not_over : (m : Machine) (e : Event) → IsActive m e → IsOver m → ⊥
-not_over m e active over = active.busy (over e active.accepted)
-
-tick_within : (k : ℕ) (b : Bool) → nat_lt k (2 ^ 64) ≡ b → (if b then None else Some ClockFull) ≡ None → nat_lt k (2 ^ 64) ≡ true
-tick_within k true g h = g
-tick_within k false g h = absurd (cc)
-
--- A machine is over if no part of it has an active event.
-pub parts_over : (m : Machine) → NoStep m → NoTake m → AllAtRest m → IsOver m
-parts_over m steps takes rest (Step t) h = absurd (steps t h)
-parts_over m steps takes rest (Take n) h = takes n h
-parts_over m steps takes rest Sleep h = tt
-parts_over m steps takes rest (Issue r) h = absurd ((rest r).issue h)
-parts_over m steps takes rest (Finish r c) h = absurd ((rest r).finish c h)
-parts_over m steps takes rest (Expire r) h = absurd ((rest r).expire h)
-parts_over m steps takes rest (Tick d) h = λ r t e.
-    elim ((rest r).deadline t e) [
-      | inl past ↦ inl past
-      | inr far ↦ let within : m.clock + d < 2 ^ 64 = ltb-true (m.clock + d) (2 ^ 64) (tick_within _ (nat_lt (m.clock + d) (2 ^ 64)) refl h) in inr (omega (arith, within, far))
-    ]

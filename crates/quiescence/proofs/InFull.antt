@@ -13,11 +13,11 @@ use Rattle.opcodes.specs.declared.ending.Outcome.{Outcome}
 use Rattle.opcodes.specs.declared.ending.Outcome.TheVariants.{Waits, BadChoice}
 use Rattle.opcodes.specs.Opcodes.{is_cancel, is_timer}
 use Rattle.opcodes.specs.Check.{op_of}
-use Rattle.opcodes.specs.Outcomes.{fixed, transferred, passes_memory, is_bad_offset, offset_of, waits_for_room, fsync_outcome, ready_of, read_outcome, write_outcome, outcome_on, stock_behind, held_descriptor}
+use Rattle.opcodes.specs.Outcomes.{fixed, transferred, passes_memory, is_bad_offset, offset_of, waits_for_room, fsync_outcome, ready_of, read_outcome, write_outcome, outcome_on, stock_at, held_descriptor}
 use Rattle.model_files.specs.declared.descriptor.DescriptorState.{DescriptorState}
 use Rattle.model_files.specs.declared.stock.Stock.{Stock}
 use Rattle.model_files.specs.declared.stock.Stock.TheVariants.{File, Pipe, EventFd}
-use Rattle.model_files.specs.Ends.{mask_behind as mask}
+use Rattle.model_files.specs.Ends.{mask_of_descriptor as mask}
 use Rattle.model_files.specs.Worlds.{WorldState}
 use Rattle.links_drains.specs.Holding.{is_held_by}
 use Rattle.scenario.specs.declared.event.Event.TheVariants.{Finish}
@@ -67,7 +67,7 @@ write e p r n (Some (EventFd counter)) = either (nat_lt e.len 8) _ _ (fix (negsu
 
 op_ends : (held : ℕ → Bool) (w : WorldState) (e : Sqe) (op : Option Op) (d : Option DescriptorState) → EndsInFull (outcome_on held w e op d)
 op_ends held w e (Some Nop) d = fix (pos 0)
-op_ends held w e (Some Fsync) d = fsync (stock_behind w d)
+op_ends held w e (Some Fsync) d = fsync (stock_at w d)
 op_ends held w e (Some PollAdd) d = either (ready_of e (mask held w d) == 0) _ _ (same Waits) (fix _)
 op_ends held w e (Some Read) d = either (passes_memory e) _ _ (fix (negsuc 13)) (read e _ _ _)
 op_ends held w e (Some Write) d = either (passes_memory e) _ _ (fix (negsuc 13)) (write e _ _ _ _)
