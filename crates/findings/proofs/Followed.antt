@@ -15,6 +15,7 @@ use Rattle.machine.specs.declared.whole.Machine.{Machine}
 use Rattle.machine.specs.Steps.{after}
 use Rattle.machine.specs.Runs.{start, moment as machine_at}
 use Rattle.machine.specs.Whole.{view, WellFormed}
+use Rattle.quiescence.specs.Over.{SaysOver}
 use Rattle.runs.specs.Moments.{IsAt, IsAfter}
 use Rattle.finding_kinds.specs.declared.finding.Finding.{Finding}
 use Rattle.finding_kinds.specs.declared.kind.Kind.{Kind}
@@ -27,12 +28,13 @@ use Rattle.findings.specs.Endings.{Circumstances}
 use Rattle.findings.specs.Completions.{circumstances}
 use Rattle.findings.specs.Conditions.{overflows}
 use Rattle.findings.specs.Conflicts.{done_as, done_at}
-use Rattle.findings.specs.Findings.{occurs, occurs_at, Lasts, IsLeft, IsFinding, IsReportOf, Rises}
-use Rattle.findings.specs.Records.{members_of, severs_chain, drops, noted, of_change, of_overflow, of_step, of_cancel, of_event, of_effect, after_notes, Covers, Adds, FoundBefore, IsLasting, AreLeft, IsAll, all_left, all_unsynced, SameFindings}
+use Rattle.findings.specs.Findings.{EndsOver, occurs, occurs_at, Lasts, IsLeft, IsFinding, IsReportOf, Rises}
+use Rattle.findings.specs.Records.{members_of, severs_chain, drops, noted, of_change, of_overflow, of_step, of_cancel, of_event, of_effect, after_notes, Covers, Adds, FoundBefore, IsLasting, AreLeft, IsAll, all_at_end, SameFindings}
 use Rattle.findings.specs.Searching.{facts_before, NotesFacts, HasSearched}
 use Rattle.findings.specs.Watched.{advanced, watched, of_lasting}
 use Rattle.findings.proofs.Lasting.{watched_first, advanced_more, lasting_reported}
-use Rattle.findings.proofs.Left.{all_at_end}
+use Rattle.findings.proofs.Left.{left_reported}
+use Rattle.findings.proofs.Threads.{threads_first, threads_more}
 use Rattle.findings.proofs.WouldConflict.{effect_done, effect_there, timespec_there}
 use Rattle.findings.proofs.Candidates.{covers_more, covers_none}
 use Rattle.findings.proofs.Groups.{the_finding}
@@ -57,6 +59,7 @@ seen_none s es m fs numbers ws e h w l = record {
   found = subst (FoundBefore s es zero) (sym h) (found_none s es);
   covered = covers_none numbers;
   watching = w ∙ ap (λ (x : Machine). map (advanced s x zero) (watched s)) e ∙ watched_first s es;
+  threads = threads_first s;
 }
 
 -- Whether an event is a finding.
@@ -159,6 +162,7 @@ seen_more s es i n e b past severing canceled fs gs numbers now ws xs h facts at
   found = found_more s es i e fs gs numbers now at.there h.found (subst (λ (x : Machine). Covers x.table now) next_state covered) (subst (λ (x : Machine). Adds s i (machine_at s es i) e x fs gs numbers now) next_state adds);
   covered = subst (λ (x : Machine). Covers x.table now) at.at.here covered;
   watching = w ∙ ap (λ (ys : List Watch). map (advanced s n (i + 1)) ys) h.watching ∙ advanced_more s es i (i + 1) n (watched s) one at.at.here;
+  threads = threads_more s es i e past n at h.threads;
 }
   where
     one : i + 1 ≡ suc i
@@ -222,9 +226,15 @@ all_found s es fs ls us gs h lasting left e = subst (IsAll s es) (sym e) (record
 })
 
 -- At the end of a run, with the findings of what lasts or is left.
-pub seen_all : (s : Setup) (es : List Event) (m : Machine) (fs gs : List Finding) (numbers : List ℕ) (ws xs : List Watch) → HasSearched s es (length es) fs numbers ws → IsAt s es (length es) m → xs ≡ ws
-    → gs ≡ (fs ++ flat_map of_lasting xs) ++ (all_left (length es) m.table ++ all_unsynced s (length es) m.world) → IsAll s es gs
-seen_all s es m fs gs numbers ws xs h at w e = all_found s es fs _ _ gs h.found (lasting_reported s es xs (w ∙ h.watching)) (all_at_end s es m at.here) e
+pub seen_all : (s : Setup) (es : List Event) (m : Machine) (over : Bool) (fs gs : List Finding) (numbers : List ℕ) (ws xs : List Watch) → HasSearched s es (length es) fs numbers ws → IsAt s es (length es) m → SaysOver over m → xs ≡ ws
+    → gs ≡ (fs ++ flat_map (of_lasting over) xs) ++ all_at_end s (length es) over m → IsAll s es gs
+seen_all s es m over fs gs numbers ws xs h at says w e =
+    let ends : EndsOver s es over = subst (λ (x : Machine). SaysOver over x) at.here says in
+    all_found s es fs _ _ gs h.found (lasting_reported s es over xs ends (w ∙ h.watching)) (left_reported s es over m ends at.here) e
+
+-- The machine at the end has at most the threads of the setup.
+pub few_threads : (s : Setup) (es : List Event) (m : Machine) (fs : List Finding) (numbers : List ℕ) (ws : List Watch) → HasSearched s es (length es) fs numbers ws → IsAt s es (length es) m → length m.threads ≤ length s.threads
+few_threads s es m fs numbers ws h at = let here = ap (λ (x : Machine). length x.threads) at.here in let same = h.threads in omega (arith, here, same)
 
 -- All findings, sorted, are the report.
 pub report_of : (s : Setup) (es : List Event) (fs gs : List Finding) → IsAll s es fs → SameFindings fs gs → Rises gs → IsReportOf s es gs

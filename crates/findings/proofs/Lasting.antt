@@ -14,14 +14,15 @@ use Rattle.finding_kinds.specs.declared.finding.Finding.{Finding}
 use Rattle.finding_kinds.specs.declared.kind.Kind.{Kind}
 use Rattle.finding_kinds.specs.declared.kind.Kind.TheVariants.{Lasting}
 use Rattle.finding_kinds.specs.declared.kind.LastingKind.{LastingKind}
-use Rattle.finding_kinds.specs.declared.kind.LastingKind.TheVariants.{Waits, LostWakeUp, NotTaken, NotReaped}
-use Rattle.finding_kinds.specs.declared.kind.Verdict.TheVariants.{Fault}
+use Rattle.findings.specs.declared.conditions.Condition.{Condition}
+use Rattle.findings.specs.declared.conditions.Condition.TheVariants.{Waits, LostWakeUp, NotTaken, NotReaped, Stuck}
 use Rattle.findings.specs.declared.watching.Watch.{Watch}
+use Rattle.findings.specs.AtEnd.{reported_as}
 use Rattle.findings.specs.Conditions.{condition_holds, Began}
-use Rattle.findings.specs.Findings.{condition_holds_at, LastsSince, Lasts}
+use Rattle.findings.specs.Findings.{EndsOver, condition_holds_at, LastsSince, Lasts}
 use Rattle.findings.specs.Records.{IsLasting}
 use Rattle.findings.specs.Searching.{since_of, watch_at}
-use Rattle.findings.specs.Watched.{continued, advanced, fresh, numbers_below, watched, of_watch, of_lasting}
+use Rattle.findings.specs.Watched.{continued, advanced, fresh, numbers_below, of_threads, watched, of_kind, of_watch, of_lasting}
 use Rattle.findings.proofs.Groups.{the_finding}
 use Rattle.findings.proofs.Members.{Has, has_left, has_right, has_flat_map, has_contains}
 
@@ -101,16 +102,23 @@ begins_since holds n i b = by (since_of holds n) (since_is holds n)
 
 -- ---- watched conditions
 
-threads_first : (s : Setup) (es : List Event) (ns : List ℕ) → map (advanced s (start s) zero) (map (fresh (Waits Fault)) ns) ≡ map (watch_at s es zero) (map (fresh (Waits Fault)) ns)
+one_first : (s : Setup) (es : List Event) (c : Condition) (ns : List ℕ) → map (advanced s (start s) zero) (map (fresh c) ns) ≡ map (watch_at s es zero) (map (fresh c) ns)
 unfolding since_of
-threads_first s es [] = refl
-threads_first s es (n ∷ ns) = ap (λ (ws : List Watch). watch_at s es zero (fresh (Waits Fault) n) ∷ ws) (threads_first s es ns)
+one_first s es c [] = refl
+one_first s es c (n ∷ ns) = ap (λ (ws : List Watch). watch_at s es zero (fresh c n) ∷ ws) (one_first s es c ns)
+
+both_first : (s : Setup) (es : List Event) (c d : Condition) (ms ns : List ℕ)
+    → map (advanced s (start s) zero) (map (fresh c) ns ++ map (fresh d) ms) ≡ map (watch_at s es zero) (map (fresh c) ns ++ map (fresh d) ms)
+unfolding since_of
+both_first s es c d ms [] = one_first s es d ms
+both_first s es c d ms (n ∷ ns) = ap (λ (ws : List Watch). watch_at s es zero (fresh c n) ∷ ws) (both_first s es c d ms ns)
 
 -- At the start.
 pub watched_first : (s : Setup) (es : List Event) → map (advanced s (start s) zero) (watched s) ≡ map (watch_at s es zero) (watched s)
 unfolding since_of
 watched_first s es =
-    ap (λ (ws : List Watch). watch_at s es zero (fresh LostWakeUp zero) ∷ watch_at s es zero (fresh (NotTaken Fault) zero) ∷ watch_at s es zero (fresh NotReaped zero) ∷ ws) (threads_first s es (numbers_below (length s.threads)))
+    ap (λ (ws : List Watch). watch_at s es zero (fresh LostWakeUp zero) ∷ watch_at s es zero (fresh NotTaken zero) ∷ watch_at s es zero (fresh NotReaped zero) ∷ ws)
+    (both_first s es Waits Stuck (numbers_below (length s.threads)) (numbers_below (length s.threads)))
 
 advanced_next : (s : Setup) (es : List Event) (i : ℕ) (ws : List Watch) → map (advanced s (machine_at s es (suc i)) (suc i)) (map (watch_at s es i) ws) ≡ map (watch_at s es (suc i)) ws
 unfolding since_of
@@ -150,17 +158,34 @@ mapped_back f xs old new rest n v e l =
 
 -- ---- their findings
 
-watch_lasts : (s : Setup) (es : List Event) (w : Watch) → All (Lasts s es) (of_lasting (watch_at s es (length es) w))
-watch_lasts s es w = by (since_of (condition_holds_at s es w.kind w.subject) (length es)) refl
-  where
-    by : (o : Option ℕ) → since_of (condition_holds_at s es w.kind w.subject) (length es) ≡ o → All (Lasts s es) (of_watch w.kind w.subject o)
-    by None e = All-nil (Lasts s es)
-    by (Some i) e = All-cons (Lasts s es) (the_finding i (Lasting w.kind) w.subject) [] (since_begins (condition_holds_at s es w.kind w.subject) (length es) i e) (All-nil (Lasts s es))
+-- A run is over at its end or not, never both.
+pub one_end : (s : Setup) (es : List Event) (a b : Bool) → EndsOver s es a → EndsOver s es b → a ≡ b
+one_end s es true true h k = refl
+one_end s es true false h k = absurd (k h)
+one_end s es false true h k = absurd (h k)
+one_end s es false false h k = refl
 
-watches_last : (s : Setup) (es : List Event) (ws : List Watch) → All (Lasts s es) (flat_map of_lasting (map (watch_at s es (length es)) ws))
-watches_last s es [] = All-nil (Lasts s es)
-watches_last s es (w ∷ ws) =
-    All-append (Lasts s es) (of_lasting (watch_at s es (length es) w)) (flat_map of_lasting (map (watch_at s es (length es)) ws)) (watch_lasts s es w) (watches_last s es ws)
+-- Only conditions that last are reported.
+module _ (s : Setup) (es : List Event) (over : Bool) (ends : EndsOver s es over) where
+  kind_lasts : (c : Condition) (n i : ℕ) → Began (condition_holds_at s es c n) (length es) i → All (Lasts s es) (of_kind n i (reported_as c over))
+  kind_lasts c n i b = by (reported_as c over) refl
+    where
+      by : (o : Option LastingKind) → reported_as c over ≡ o → All (Lasts s es) (of_kind n i o)
+      by None e = All-nil (Lasts s es)
+      by (Some kind) e =
+          All-cons (Lasts s es) (the_finding i (Lasting kind) n) [] (record { over = over; ends = ends; condition = c; reported = e; began = b }) (All-nil (Lasts s es))
+
+  watch_lasts : (w : Watch) → All (Lasts s es) (of_lasting over (watch_at s es (length es) w))
+  watch_lasts w = by (since_of (condition_holds_at s es w.condition w.subject) (length es)) refl
+    where
+      by : (o : Option ℕ) → since_of (condition_holds_at s es w.condition w.subject) (length es) ≡ o → All (Lasts s es) (of_watch over w.condition w.subject o)
+      by None e = All-nil (Lasts s es)
+      by (Some i) e = kind_lasts w.condition w.subject i (since_begins (condition_holds_at s es w.condition w.subject) (length es) i e)
+
+  watches_last : (ws : List Watch) → All (Lasts s es) (flat_map (of_lasting over) (map (watch_at s es (length es)) ws))
+  watches_last [] = All-nil (Lasts s es)
+  watches_last (w ∷ ws) =
+      All-append (Lasts s es) (of_lasting over (watch_at s es (length es) w)) (flat_map (of_lasting over) (map (watch_at s es (length es)) ws)) (watch_lasts w) (watches_last ws)
 
 has_map : {X Y : Type 0} (f : X → Y) (xs : List X) (x : X) → Has xs x → Has (map f xs) (f x)
 has_map f [] x h = absurd h
@@ -176,32 +201,40 @@ below_there n (suc m) l =
     ]
 
 -- Each condition that can hold is watched.
-watched_has : (s : Setup) (kind : LastingKind) (m : Machine) (n : ℕ) → condition_holds s kind m n ≡ true → Has (watched s) (fresh kind n)
+watched_has : (s : Setup) (c : Condition) (m : Machine) (n : ℕ) → condition_holds s c m n ≡ true → Has (watched s) (fresh c n)
 watched_has s LostWakeUp m n h = let e : n ≡ zero = eqb-true n zero (and_parts _ _ h).0 in inl (ap (fresh LostWakeUp) (sym e))
-watched_has s (NotTaken Fault) m n h = let e : n ≡ zero = eqb-true n zero (and_parts _ _ h).0 in inr (inl (ap (fresh (NotTaken Fault)) (sym e)))
+watched_has s NotTaken m n h = let e : n ≡ zero = eqb-true n zero (and_parts _ _ h).0 in inr (inl (ap (fresh NotTaken) (sym e)))
 watched_has s NotReaped m n h = let e : n ≡ zero = eqb-true n zero (and_parts _ _ h).0 in inr (inr (inl (ap (fresh NotReaped) (sym e))))
-watched_has s (Waits Fault) m n h =
+watched_has s Waits m n h =
     let l : n < length s.threads = ltb-true n (length s.threads) (and_parts _ _ h).0 in
-    inr (inr (inr (has_map (fresh (Waits Fault)) (numbers_below (length s.threads)) n (below_there n (length s.threads) l))))
-watched_has s _ m n h = absurd (false_true h)
+    inr (inr (inr (has_left (of_threads s Waits) (of_threads s Stuck) (fresh Waits n) (has_map (fresh Waits) (numbers_below (length s.threads)) n (below_there n (length s.threads) l)))))
+watched_has s Stuck m n h =
+    let l : n < length s.threads = ltb-true n (length s.threads) (and_parts _ _ h).0 in
+    inr (inr (inr (has_right (of_threads s Waits) (of_threads s Stuck) (fresh Stuck n) (has_map (fresh Stuck) (numbers_below (length s.threads)) n (below_there n (length s.threads) l)))))
 
-watch_reported : (s : Setup) (es : List Event) (i : ℕ) (kind : LastingKind) (n : ℕ) → Began (condition_holds_at s es kind n) (length es) i → Has (flat_map of_lasting (map (watch_at s es (length es)) (watched s))) (the_finding i (Lasting kind) n)
-watch_reported s es i kind n h =
-    let holds_now : condition_holds s kind (machine_at s es (length es)) n ≡ true = h.lasts (length es) h.within (omega arith) in
-    let there = has_map (watch_at s es (length es)) (watched s) (fresh kind n) (watched_has s kind (machine_at s es (length es)) n holds_now) in
-    let since : since_of (condition_holds_at s es kind n) (length es) ≡ Some i = begins_since (condition_holds_at s es kind n) (length es) i h in
-    let reported : Has (of_lasting (watch_at s es (length es) (fresh kind n))) (the_finding i (Lasting kind) n) =
-    subst (λ (o : Option ℕ). Has (of_watch kind n o) (the_finding i (Lasting kind) n)) (sym since) (inl refl)
-    in
-    has_flat_map of_lasting (map (watch_at s es (length es)) (watched s)) (watch_at s es (length es) (fresh kind n)) (the_finding i (Lasting kind) n) there reported
+-- Each condition that lasts and has a kind is reported.
+module _ (s : Setup) (es : List Event) (over : Bool) where
+  watch_reported : (i : ℕ) (c : Condition) (kind : LastingKind) (n : ℕ) → reported_as c over ≡ Some kind → Began (condition_holds_at s es c n) (length es) i
+      → Has (flat_map (of_lasting over) (map (watch_at s es (length es)) (watched s))) (the_finding i (Lasting kind) n)
+  watch_reported i c kind n r h =
+      let holds_now : condition_holds s c (machine_at s es (length es)) n ≡ true = h.lasts (length es) h.within (omega arith) in
+      let there = has_map (watch_at s es (length es)) (watched s) (fresh c n) (watched_has s c (machine_at s es (length es)) n holds_now) in
+      let since : since_of (condition_holds_at s es c n) (length es) ≡ Some i = begins_since (condition_holds_at s es c n) (length es) i h in
+      let one : Has (of_kind n i (reported_as c over)) (the_finding i (Lasting kind) n) =
+      subst (λ (o : Option LastingKind). Has (of_kind n i o) (the_finding i (Lasting kind) n)) (sym r) (inl refl)
+      in
+      let reported : Has (of_lasting over (watch_at s es (length es) (fresh c n))) (the_finding i (Lasting kind) n) =
+      subst (λ (o : Option ℕ). Has (of_watch over c n o) (the_finding i (Lasting kind) n)) (sym since) one
+      in
+      has_flat_map (of_lasting over) (map (watch_at s es (length es)) (watched s)) (watch_at s es (length es) (fresh c n)) (the_finding i (Lasting kind) n) there reported
 
-lasts_reported : (s : Setup) (es : List Event) (i : ℕ) (kind : Kind) (n : ℕ) → LastsSince s es i kind n → Has (flat_map of_lasting (map (watch_at s es (length es)) (watched s))) (the_finding i kind n)
-lasts_reported s es i (Lasting kind) n h = watch_reported s es i kind n h
-lasts_reported s es i _ n h = absurd h
+  lasts_reported : EndsOver s es over → (i : ℕ) (kind : Kind) (n : ℕ) → LastsSince s es i kind n → Has (flat_map (of_lasting over) (map (watch_at s es (length es)) (watched s))) (the_finding i kind n)
+  lasts_reported ends i (Lasting kind) n h = watch_reported i h.condition kind n (ap (reported_as h.condition) (one_end s es over h.over ends h.ends) ∙ h.reported) h.began
+  lasts_reported ends i _ n h = absurd h
 
 -- The findings of the watched conditions are those that last to the end.
-pub lasting_reported : (s : Setup) (es : List Event) (ws : List Watch) → ws ≡ map (watch_at s es (length es)) (watched s) → IsLasting s es (flat_map of_lasting ws)
-lasting_reported s es ws e = subst (λ (xs : List Watch). IsLasting s es (flat_map of_lasting xs)) (sym e) (record {
-  only = watches_last s es (watched s);
-  whole = λ f h. has_contains _ f (lasts_reported s es f.moment f.kind f.subject h);
+pub lasting_reported : (s : Setup) (es : List Event) (over : Bool) (ws : List Watch) → EndsOver s es over → ws ≡ map (watch_at s es (length es)) (watched s) → IsLasting s es (flat_map (of_lasting over) ws)
+lasting_reported s es over ws ends e = subst (λ (xs : List Watch). IsLasting s es (flat_map (of_lasting over) xs)) (sym e) (record {
+  only = watches_last s es over ends (watched s);
+  whole = λ f h. has_contains _ f (lasts_reported s es over ends f.moment f.kind f.subject h);
 })

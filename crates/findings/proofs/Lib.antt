@@ -17,4 +17,7 @@ pub mod Lasting
 pub mod Left
 pub mod Alike
 pub mod Durability
+pub mod Blocked
+pub mod StuckSteps
+pub mod Threads
 pub mod Followed

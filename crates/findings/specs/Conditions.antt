@@ -5,27 +5,26 @@ use Rattle.std.specs.Ordering.{int_eq}
 use Rattle.std.specs.Str.{bytes_eq}
 use Rattle.model_files.specs.Files.{FileState, content, durable_content}
 use Rattle.model_files.specs.Worlds.{WorldState, file_of}
+use Rattle.ring_words.specs.Rings.{waiting}
 use Rattle.places.specs.declared.place.Place.TheVariants.{OpenMark}
 use Rattle.places.specs.declared.value.Stage.{Stage}
 use Rattle.places.specs.declared.value.Stage.TheVariants.{Ready, Waiting}
 use Rattle.scenario.specs.declared.event.Event.{Event}
 use Rattle.scenario.specs.declared.event.Event.TheVariants.{Step}
+use Rattle.scenario.specs.declared.event.Refusal.{Refusal}
+use Rattle.scenario.specs.declared.event.Refusal.TheVariants.{SqFull, NothingToReap}
 use Rattle.scenario.specs.declared.setup.Instruction.{Instruction}
-use Rattle.scenario.specs.declared.setup.Instruction.TheVariants.{Put, Push, Enter, Close}
+use Rattle.scenario.specs.declared.setup.Instruction.TheVariants.{Put, Push, Enter, Reap, Close}
 use Rattle.scenario.specs.declared.setup.Setup.{Setup}
 use Rattle.links_drains.specs.Links.{has_flag}
-use Rattle.links_drains.specs.Units.{is_open}
 use Rattle.machine.specs.declared.whole.Machine.{Machine}
-use Rattle.machine.specs.Steps.{number_in}
+use Rattle.machine.specs.Steps.{number_in, ready_count}
 use Rattle.machine.specs.Threads.{ThreadState}
 use Rattle.machine.specs.Whole.{view}
-use Rattle.finding_kinds.specs.declared.kind.LastingKind.{LastingKind}
-use Rattle.finding_kinds.specs.declared.kind.LastingKind.TheVariants.{Waits, LostWakeUp, NotTaken, NotReaped}
-use Rattle.finding_kinds.specs.declared.kind.Verdict.TheVariants.{Fault, Note}
-use Rattle.finding_kinds.specs.declared.kind.LeftKind.{LeftKind}
-use Rattle.finding_kinds.specs.declared.kind.LeftKind.TheVariants.{Unfinished, NotDurable}
 use Rattle.finding_kinds.specs.declared.kind.StepKind.{StepKind}
 use Rattle.finding_kinds.specs.declared.kind.StepKind.TheVariants.{Busy, TakenShort, NoSuchSlot, SlotInUse, ClosedEarly, ClosedWhileHeld, RefusedFlags, ClosedTwice}
+use Rattle.findings.specs.declared.conditions.Condition.{Condition}
+use Rattle.findings.specs.declared.conditions.Condition.TheVariants.{Waits, LostWakeUp, NotTaken, NotReaped, Stuck}
 use Rattle.findings.specs.Endings.{is_error, is_less}
 use Rattle.findings.specs.Uses.{is_pushed_last, is_named, is_held}
 use Rattle.finding_kinds.specs.Programs.{instruction_at}
@@ -109,6 +108,32 @@ is_of_step kind changes x m t = false
 abbrev pub waits : Setup → Machine → ℕ → Bool
 waits s m t = nat_lt t (length s.threads) && option_map_or (λ (x : ThreadState). is_held_up x.stage) (slice_get m.threads t) false
 
+-- Whether a thread waits in no enter.
+abbrev pub is_ready : Machine → ℕ → Bool
+is_ready m t = option_map_or (λ (x : ThreadState). not (is_held_up x.stage)) (slice_get m.threads t) false
+
+-- Whether an instruction can't be done yet: a push while no word of the submission ring is free, or
+-- a reap while the completion ring is empty (io_uring(7)).
+abbrev pub is_blocked : Machine → Instruction → Bool
+is_blocked m (Push index) = waiting m.submissions.head m.submissions.tail == length m.submissions.array
+is_blocked m Reap = ready_count m == 0
+is_blocked m x = false
+
+-- Whether some push or reap can't be done yet.
+abbrev pub is_any_blocked : Machine → Bool
+is_any_blocked m = is_blocked m Reap || is_blocked m (Push 0)
+
+-- Whether the state of a ring is why an event is refused.
+abbrev pub is_of_ring : Option Refusal → Bool
+is_of_ring (Some SqFull) = true
+is_of_ring (Some NothingToReap) = true
+is_of_ring o = false
+
+-- Whether a thread of the setup is ready, and its next instruction can't be done yet. In a run that
+-- is so exactly if a ring is why its next step is refused (`laws.rt`).
+abbrev pub is_stuck : Setup → Machine → ℕ → Bool
+is_stuck s m t = nat_lt t (length s.threads) && (option_map_or (is_blocked m) (done_by s m (Step t)) false && is_ready m t)
+
 -- ---- conditions that last
 
 -- Whether a condition holds that is a finding if it lasts to the end. The subject is 0 for the
@@ -117,12 +142,13 @@ waits s m t = nat_lt t (length s.threads) && option_map_or (λ (x : ThreadState)
 --   NotTaken: entries wait, and no poller is asleep.
 --   NotReaped: completions wait in the ring or in the backlog.
 --   Waits: the thread waits in its enter.
-abbrev pub condition_holds : Setup → LastingKind → Machine → ℕ → Bool
+--   Stuck: a push or a reap of the thread can't be done.
+abbrev pub condition_holds : Setup → Condition → Machine → ℕ → Bool
 condition_holds s LostWakeUp m n = (n == 0) && (needs_wake_up m && has_entries m)
-condition_holds s (NotTaken Fault) m n = (n == 0) && (not (needs_wake_up m) && has_entries m)
+condition_holds s NotTaken m n = (n == 0) && (not (needs_wake_up m) && has_entries m)
 condition_holds s NotReaped m n = (n == 0) && (overflows m || has_completions m)
-condition_holds s (Waits Fault) m t = waits s m t
-condition_holds s kind m n = false
+condition_holds s Waits m t = waits s m t
+condition_holds s Stuck m t = is_stuck s m t
 
 -- ---- the end
 
@@ -133,14 +159,6 @@ is_unsynced f = not (bytes_eq (content f) (durable_content f))
 -- Whether an object is a file whose contents are not durable.
 abbrev pub has_unsynced : WorldState → ℕ → Bool
 has_unsynced w o = option_map_or is_unsynced (file_of w o) false
-
--- Whether a request or an object is a finding at the end:
---   Unfinished: the request is incomplete.
---   NotDurable: the object is a file with written bytes that are not durable.
-abbrev pub is_left : Setup → LeftKind → Machine → ℕ → Bool
-is_left s (Unfinished Fault) m r = option_map_or is_open (slice_get m.table r) false
-is_left s (NotDurable Note) m o = nat_lt o (length s.objects) && has_unsynced m.world o
-is_left s kind m n = false
 
 -- A condition has held at each moment from `since` to `now`, and not at the moment before `since`.
 pub record Began (holds : ℕ → Bool) (now since : ℕ) : Type 0 where

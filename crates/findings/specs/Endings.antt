@@ -90,9 +90,9 @@ pub record Circumstances : Type 0 where
   pub was_ready : Bool
 
 -- Whether a verdict is the right one of a finding that is a fault exactly if a test holds.
-abbrev pub is_right : Verdict → Bool → Bool
-is_right Fault test = test
-is_right Note test = not test
+abbrev pub is_verdict : Verdict → Bool → Bool
+is_verdict Fault test = test
+is_verdict Note test = not test
 
 -- Whether completing with a result is a finding (io_uring_enter(2)):
 --   Failed: the result is an error that no other kind covers.
@@ -109,10 +109,10 @@ is_right Note test = not test
 --     linked timeout.
 abbrev pub is_of : EndedKind → Circumstances → Option Row → Row → Option Row → ℤ → Bool
 is_of Failed c before row next res = is_negative res && not (is_reported_apart row res)
-is_of (Short verdict) c before row next res = (is_transfer row.entry.opcode && is_less res row.entry.len) && is_right verdict c.short_of_end
+is_of (Short verdict) c before row next res = (is_transfer row.entry.opcode && is_less res row.entry.len) && is_verdict verdict c.short_of_end
 is_of Severed c before row next res = severs before row res && c.severs_others
 is_of Canceled c before row next res = is_error 125 res && not c.is_named
-is_of (TimedOut verdict) c before row next res = (is_guard row && is_error 62 res) && is_right verdict c.was_ready
+is_of (TimedOut verdict) c before row next res = (is_guard row && is_error 62 res) && is_verdict verdict c.was_ready
 is_of Expired c before row next res = (row.entry.opcode == 11) && is_error 62 res
 is_of NotFound c before row next res = is_cancel row.entry.opcode && is_error 2 res
 is_of TooLate c before row next res = is_cancel row.entry.opcode && is_error 114 res

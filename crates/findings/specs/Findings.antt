@@ -1,5 +1,5 @@
 -- The findings of a run, by the machines before and after each event.
-use Rattle.std.specs.Prelude.{◌≡◌, ℕ, ◌==◌, Bool, true, false, not, ◌&&◌, ◌⊎◌, length, List, slice_get}
+use Rattle.std.specs.Prelude.{◌≡◌, ℕ, ◌==◌, Bool, true, false, not, ◌&&◌, ◌⊎◌, Some, length, List, slice_get}
 use Rattle.std.specs.Option.{option_map_or}
 use Rattle.std.specs.List.{All, Contains}
 use Rattle.std.specs.List.Sorted.{IsStrictlySortedBy}
@@ -8,16 +8,20 @@ use Rattle.scenario.specs.declared.setup.Setup.{Setup}
 use Rattle.machine.specs.declared.whole.Machine.{Machine}
 use Rattle.machine.specs.Steps.{after}
 use Rattle.machine.specs.Runs.{moment as machine_at}
+use Rattle.quiescence.specs.Over.{SaysOver}
 use Rattle.finding_kinds.specs.declared.kind.Kind.{Kind}
 use Rattle.finding_kinds.specs.declared.kind.Kind.TheVariants.{Ended, Overflow, Lasting, Left, Conflict, Step, Queued, Cancel, TimespecInUse, FsyncRetried}
 use Rattle.finding_kinds.specs.declared.kind.EndedKind.{EndedKind}
 use Rattle.finding_kinds.specs.declared.kind.LastingKind.{LastingKind}
+use Rattle.finding_kinds.specs.declared.kind.LeftKind.{LeftKind}
 use Rattle.finding_kinds.specs.declared.kind.QueuedKind.{QueuedKind}
 use Rattle.finding_kinds.specs.declared.kind.StepKind.{StepKind}
 use Rattle.finding_kinds.specs.declared.finding.Finding.{Finding}
 use Rattle.finding_kinds.specs.Orders.{order_of}
+use Rattle.findings.specs.declared.conditions.Condition.{Condition}
+use Rattle.findings.specs.AtEnd.{reported_as, is_left}
 use Rattle.findings.specs.Endings.{ended_test, queued_test}
-use Rattle.findings.specs.Conditions.{overflows, done_by, is_of_step, is_step_of, condition_holds, is_left, Began}
+use Rattle.findings.specs.Conditions.{overflows, done_by, is_of_step, is_step_of, condition_holds, Began}
 use Rattle.findings.specs.Conflicts.{clashes, done_at}
 use Rattle.findings.specs.Completions.{circumstances}
 use Rattle.findings.specs.Timespecs.{overwrites}
@@ -70,17 +74,37 @@ occurs_at s es i kind n =
 -- ---- the end
 
 -- Whether a condition holds at moment i of a run.
-abbrev pub condition_holds_at : Setup → List Event → LastingKind → ℕ → ℕ → Bool
-condition_holds_at s es kind n i = condition_holds s kind (machine_at s es i) n
+abbrev pub condition_holds_at : Setup → List Event → Condition → ℕ → ℕ → Bool
+condition_holds_at s es condition n i = condition_holds s condition (machine_at s es i) n
 
--- A condition about subject n that lasts to the end, at the moment since when it holds.
-abbrev pub LastsSince : Setup → List Event → ℕ → Kind → ℕ → Type 0
-LastsSince s es i (Lasting kind) n = Began (condition_holds_at s es kind n) (length es) i
-LastsSince s es i kind n = ⊥
+-- A Bool says whether a run is over at its end: nothing more can happen then but idle events.
+abbrev pub EndsOver : Setup → List Event → Bool → Type 0
+EndsOver s es over = SaysOver over (machine_at s es (length es))
+
+-- A condition about subject n has held since moment i and lasts to the end, and is reported as this
+-- kind.
+pub record IsReported (s : Setup) (es : List Event) (i : ℕ) (kind : LastingKind) (n : ℕ) : Type 0 where
+  pub over : Bool
+  pub ends : EndsOver s es over
+  pub condition : Condition
+  pub reported : reported_as condition over ≡ Some kind
+  pub began : Began (condition_holds_at s es condition n) (length es) i
 
 -- A request that is incomplete at the end, or a file that isn't durable then.
+pub record IsAtEnd (s : Setup) (es : List Event) (i : ℕ) (kind : LeftKind) (n : ℕ) : Type 0 where
+  pub over : Bool
+  pub ends : EndsOver s es over
+  pub last : i ≡ length es
+  pub left : is_left s over kind (machine_at s es (length es)) n ≡ true
+
+-- A finding about subject n that is a condition, at the moment since when it holds.
+abbrev pub LastsSince : Setup → List Event → ℕ → Kind → ℕ → Type 0
+LastsSince s es i (Lasting kind) n = IsReported s es i kind n
+LastsSince s es i kind n = ⊥
+
+-- A finding about subject n that is left at the end.
 abbrev pub IsLeftAt : Setup → List Event → ℕ → Kind → ℕ → Type 0
-IsLeftAt s es i (Left kind) n = (i ≡ length es) × (is_left s kind (machine_at s es (length es)) n ≡ true)
+IsLeftAt s es i (Left kind) n = IsAtEnd s es i kind n
 IsLeftAt s es i kind n = ⊥
 
 abbrev pub Lasts : Setup → List Event → Finding → Type 0

@@ -4,6 +4,7 @@ pub mod Conditions
 pub mod Conflicts
 pub mod Completions
 pub mod Canceling
+pub mod AtEnd
 pub mod Watched
 pub mod Given
 pub mod Timespecs

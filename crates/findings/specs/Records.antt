@@ -10,7 +10,6 @@ use Rattle.places.specs.declared.value.Change.{Change}
 use Rattle.places.specs.declared.value.Value.{Value}
 use Rattle.places.specs.declared.value.Value.TheVariants.{Requested}
 use Rattle.places.specs.View.{View, Exact, NamesOnce}
-use Rattle.model_files.specs.Worlds.{WorldState}
 use Rattle.scenario.specs.declared.event.Event.{Event}
 use Rattle.scenario.specs.declared.event.Event.TheVariants.{Step}
 use Rattle.scenario.specs.declared.setup.Instruction.{Instruction}
@@ -37,6 +36,7 @@ use Rattle.findings.specs.declared.conditions.Before.{Before}
 use Rattle.findings.specs.declared.effect.Effect.{Effect}
 use Rattle.findings.specs.declared.effect.Effect.TheVariants.{Nothing}
 use Rattle.finding_kinds.specs.declared.finding.Finding.{Finding}
+use Rattle.findings.specs.AtEnd.{fault_if, has_fsync}
 use Rattle.findings.specs.Endings.{Circumstances, ended_test, queued_test}
 use Rattle.findings.specs.Completions.{is_short_of_end, is_severing, is_dropped, is_later, continues, member_of, is_expiry_of, expires_over, has_canceled_target, circumstances}
 use Rattle.findings.specs.Canceling.{cancel_before, is_of_cancel}
@@ -224,21 +224,26 @@ pub record IsLasting (s : Setup) (es : List Event) (fs : List Finding) : Type 0 
   pub only : All (Lasts s es) fs
   pub whole : (f : Finding) → Lasts s es f → Contains fs f
 
--- A finding if the numbered request is incomplete at the end.
-abbrev pub of_left : ℕ → ℕ × Row → List Finding
-of_left n p = given (is_open p.1) (record { moment = n; kind = group.Left (Unfinished Fault); subject = p.0 })
+-- A finding if the numbered request is incomplete at the end. The Bool says whether the run is over
+-- then.
+abbrev pub of_left : ℕ → Bool → ℕ × Row → List Finding
+of_left n over p = given (is_open p.1) (record { moment = n; kind = group.Left (Unfinished (fault_if over)); subject = p.0 })
 
 -- The findings about all incomplete requests.
-abbrev pub all_left : ℕ → List Row → List Finding
-all_left n rows = flat_map (of_left n) (enumerate_from 0 rows)
+abbrev pub all_left : ℕ → Bool → List Row → List Finding
+all_left n over rows = flat_map (of_left n over) (enumerate_from 0 rows)
 
 -- A finding if the object is a file that isn't durable at the end.
-abbrev pub of_object : ℕ → WorldState → ℕ → List Finding
-of_object n w o = given (has_unsynced w o) (record { moment = n; kind = group.Left (NotDurable Note); subject = o })
+abbrev pub of_object : Setup → ℕ → Machine → ℕ → List Finding
+of_object s n m o = given (has_unsynced m.world o) (record { moment = n; kind = group.Left (NotDurable (fault_if (has_fsync s m.table o))); subject = o })
 
 -- The findings about all files that aren't durable.
-abbrev pub all_unsynced : Setup → ℕ → WorldState → List Finding
-all_unsynced s n w = flat_map (of_object n w) (numbers_below (length s.objects))
+abbrev pub all_unsynced : Setup → ℕ → Machine → List Finding
+all_unsynced s n m = flat_map (of_object s n m) (numbers_below (length s.objects))
+
+-- The findings about all that is left.
+abbrev pub all_at_end : Setup → ℕ → Bool → Machine → List Finding
+all_at_end s n over m = all_left n over m.table ++ all_unsynced s n m
 
 -- Exactly the requests that are incomplete at the end, and the files that aren't durable.
 pub record AreLeft (s : Setup) (es : List Event) (fs : List Finding) : Type 0 where

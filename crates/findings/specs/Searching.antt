@@ -38,15 +38,17 @@ since_of holds (suc n) = continued (holds (suc n)) (since_of holds n) (suc n)
 
 -- A watched condition at moment n of a run.
 abbrev pub watch_at : Setup → List Event → ℕ → Watch → Watch
-watch_at s es n w = record w { since = since_of (condition_holds_at s es w.kind w.subject) n }
+watch_at s es n w = record w { since = since_of (condition_holds_at s es w.condition w.subject) n }
 
 -- The search has seen the first n events of a run: it has their findings, follows each incomplete
--- READ and WRITE, and knows since when each watched condition holds.
+-- READ and WRITE, and knows since when each watched condition holds. The machine has the threads of
+-- the setup.
 pub record HasSearched (s : Setup) (es : List Event) (n : ℕ) (fs : List Finding) (numbers : List ℕ) (ws : List Watch) : Type 0 where
   pub most : length es ≤ 1048576
   pub found : FoundBefore s es n fs
   pub covered : Covers (machine_at s es n).table numbers
   pub watching : ws ≡ map (watch_at s es n) (watched s)
+  pub threads : length (machine_at s es n).threads ≡ length s.threads
 
 -- Why a search ends early: the first refused event of the run, or an allocation failure.
 abbrev pub Halted : {E : Type 0} → Setup → List Event → Ended E → Type 0

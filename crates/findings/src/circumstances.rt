@@ -4,7 +4,7 @@ ghost use Rattle.std.specs.Prelude.{◌≡◌, ◌==◌, ◌&&◌, not, false, s
 ghost use Rattle.std.specs.Option.{option_map_or};
 ghost use Rattle.std.specs.List.{list_any};
 ghost use Rattle.links_drains.specs.Holding.{is_number};
-ghost use Rattle.findings.specs.Endings.{is_right};
+ghost use Rattle.findings.specs.Endings.{is_verdict};
 ghost use Rattle.findings.specs.Conflicts.{moved, file_of};
 ghost use Rattle.findings.specs.Completions.{ends_before, is_short_of_end, is_later, member_of, limits, expires_over, could_finish, has_ready_target, expires_late, was_canceled, has_canceled_target};
 ghost use Rattle.findings.specs.Records.{is_severed_in, noted};
@@ -24,8 +24,8 @@ use places::Place;
 
 /// Returns whether the verdict is the right one of a finding that is a fault exactly if the test
 /// holds.
-pub(crate) fn is_right(verdict: Verdict, test: bool) -> bool
-    ensures { result ≡ is_right verdict test }
+pub(crate) fn is_verdict(verdict: Verdict, test: bool) -> bool
+    ensures { result ≡ is_verdict verdict test }
 {
     match verdict {
         Verdict::Fault => test,

@@ -1,8 +1,9 @@
 //! Findings about the rings and the threads.
-ghost use Rattle.std.specs.Prelude.{◌≡◌, false};
+ghost use Rattle.std.specs.Prelude.{◌≡◌, ◌==◌, false, length};
 ghost use Rattle.std.specs.Option.{option_map_or};
 ghost use Rattle.links_drains.specs.Links.{has_flag};
-ghost use Rattle.findings.specs.Conditions.{needs_wake_up, overflows, has_entries, has_completions, counter_of, answer_of, has_closed, has_descriptor, is_of_step, waits, condition_holds};
+ghost use Rattle.ring_words.specs.Rings.{waiting};
+ghost use Rattle.findings.specs.Conditions.{needs_wake_up, overflows, has_entries, has_completions, counter_of, answer_of, has_closed, has_descriptor, is_of_step, waits, is_ready, is_blocked, is_any_blocked, is_stuck, condition_holds};
 ghost use Rattle.findings.specs.Endings.{is_error, is_less};
 ghost use Rattle.machine.specs.Steps.{number_in};
 ghost use Rattle.findings.specs.Searching.{facts_before};
@@ -11,9 +12,24 @@ use crate::canceling::{Cancel, cancel_before};
 use crate::circumstances::expires_late;
 use crate::uses::{Sought, changes_at, first_pushed, is_held, is_named, is_pushed_last};
 use entries::{EBADF, EBUSY, EINVAL, IORING_SQ_CQ_OVERFLOW, IORING_SQ_NEED_WAKEUP};
-use finding_kinds::{LastingKind, StepKind, Verdict, descriptor_number, instruction_at};
+use finding_kinds::{StepKind, descriptor_number, instruction_at};
 use machine::{Event, Instruction, Setup, State};
 use places::{Place, Stage, Value};
+
+/// A condition that is a finding if it lasts to the end of a run.
+#[derive(Clone, Copy)]
+pub enum Condition {
+    /// The thread waits in its enter.
+    Waits,
+    /// Entries wait while the poller sleeps.
+    LostWakeUp,
+    /// Entries wait though no poller sleeps.
+    NotTaken,
+    /// Completions remain in the ring or in the backlog.
+    NotReaped,
+    /// The thread reaps from an empty ring, or pushes to a full one.
+    Stuck,
+}
 
 /// Facts about the state before an event, saved because the event changes them.
 #[derive(Clone, Copy)]
@@ -226,17 +242,75 @@ fn waits(setup: &Setup, state: &State, thread: u32) -> bool
     }
 }
 
-/// Returns whether a condition holds that is a finding if it lasts to the end of the run.
-pub(crate) fn condition_holds(setup: &Setup, kind: LastingKind, state: &State, subject: u32) -> bool
-    ensures { result ≡ condition_holds setup.now kind state.now subject }
+// Returns whether the thread waits in no enter.
+fn is_ready(state: &State, thread: u32) -> bool
+    ensures { result ≡ is_ready state.now thread }
 {
-    match kind {
-        LastingKind::LostWakeUp => subject == 0 && (needs_wake_up(state) && has_entries(state)),
-        LastingKind::NotTaken(Verdict::Fault) => {
-            subject == 0 && (!needs_wake_up(state) && has_entries(state))
-        }
-        LastingKind::NotReaped => subject == 0 && (overflows(state) || has_completions(state)),
-        LastingKind::Waits(Verdict::Fault) => waits(setup, state, subject),
+    match state.value(Place::ThreadStage(thread)) {
+        Some(Value::Staged(Stage::Ready)) => true,
         _ => false,
+    }
+}
+
+// Returns whether no word of the submission ring is free, so that a push is refused.
+fn is_full(state: &State) -> bool
+    ensures { result ≡ (waiting state.now.submissions.head state.now.submissions.tail
+        == length state.now.submissions.array) }
+{
+    let ring = state.submissions();
+    ring.waiting() == ring.size()
+}
+
+// Returns whether an instruction is a push or a reap that can't be done yet.
+fn is_blocked(state: &State, instruction: &Instruction) -> bool
+    ensures { result ≡ is_blocked state.now instruction.now }
+{
+    match instruction {
+        Instruction::Push(_) => is_full(state),
+        Instruction::Reap => state.completions().is_empty(),
+        _ => false,
+    }
+}
+
+// Returns whether a push or a reap can't be done yet.
+fn is_any_blocked(state: &State) -> bool
+    ensures { result ≡ is_any_blocked state.now }
+{
+    state.completions().is_empty() || is_full(state)
+}
+
+// Returns whether a thread of the setup is ready, and its next instruction is a push or a reap that
+// can't be done yet. Looks at the rings before the thread, which costs less.
+fn is_stuck(setup: &Setup, state: &State, thread: u32) -> bool
+    ensures { result ≡ is_stuck setup.now state.now thread }
+{
+    if thread as usize >= setup.threads.as_slice().len() {
+        return false;
+    }
+    if !is_any_blocked(state) {
+        return false;
+    }
+    let step = Event::Step(thread);
+    match instruction_at(setup, step, counter_of(state, step)) {
+        Some(instruction) => is_blocked(state, instruction) && is_ready(state, thread),
+        None => false,
+    }
+}
+
+/// Returns whether a condition holds that is a finding if it lasts to the end of the run.
+pub(crate) fn condition_holds(
+    setup: &Setup,
+    condition: Condition,
+    state: &State,
+    subject: u32,
+) -> bool
+    ensures { result ≡ condition_holds setup.now condition state.now subject }
+{
+    match condition {
+        Condition::LostWakeUp => subject == 0 && (needs_wake_up(state) && has_entries(state)),
+        Condition::NotTaken => subject == 0 && (!needs_wake_up(state) && has_entries(state)),
+        Condition::NotReaped => subject == 0 && (overflows(state) || has_completions(state)),
+        Condition::Waits => waits(setup, state, subject),
+        Condition::Stuck => is_stuck(setup, state, subject),
     }
 }

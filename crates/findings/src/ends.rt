@@ -7,7 +7,7 @@ ghost use Rattle.findings.specs.Endings.{had_ended, was_issued, result_in, endin
 ghost use Rattle.findings.specs.Completions.{is_severing, is_dropped, continues};
 ghost use Rattle.findings.specs.Records.{noted};
 
-use crate::circumstances::{is_named, is_right, is_short_of_end, severs_others, was_ready};
+use crate::circumstances::{is_named, is_verdict, is_short_of_end, severs_others, was_ready};
 use crate::leftover::row_at;
 use crate::transition::Transition;
 use crate::twins::has_twin;
@@ -235,12 +235,12 @@ fn is_of(
     match kind {
         EndedKind::Failed => res < 0 && !is_reported_apart(row, res),
         EndedKind::Short(verdict) => {
-            is_short(row, res) && is_right(verdict, is_short_of_end(at, row))
+            is_short(row, res) && is_verdict(verdict, is_short_of_end(at, row))
         }
         EndedKind::Severed => severs(before, row, res) && severs_others(at, number, row),
         EndedKind::Canceled => is_canceled(res) && !is_named(at, number, row),
         EndedKind::TimedOut(verdict) => {
-            has_timed_out(row, res) && is_right(verdict, was_ready(at, number, row))
+            has_timed_out(row, res) && is_verdict(verdict, was_ready(at, number, row))
         }
         EndedKind::Expired => row.entry.opcode == Op::Timeout as u8 && is_out_of_time(res),
         EndedKind::NotFound => is_cancel(row.entry.opcode) && is_not_there(res),

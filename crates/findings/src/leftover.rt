@@ -4,8 +4,9 @@ ghost use Rattle.machine.specs.Whole.{WellFormed};
 ghost use Rattle.findings.specs.Records.{of_left, all_left};
 
 use crate::record::add_if;
+use crate::watching::fault_if;
 use entries::Row;
-use finding_kinds::{Finding, Kind, LeftKind, MOST_ROWS, Verdict};
+use finding_kinds::{Finding, Kind, LeftKind, MOST_ROWS};
 use links_drains::is_unfinished;
 use machine::State;
 use std::alloc::AllocError;
@@ -20,30 +21,39 @@ pub(crate) fn row_at(state: &State, number: u32) -> Option<Row>
     state.row(number)
 }
 
-// Adds a finding if the request is incomplete.
-fn add_left(found: &mut Vec<Finding>, moment: u32, number: u32, row: &Row) -> Result<(), AllocError>
-    ensures { OnOk result (found.new.items ≡ found.old.items ++ of_left moment (number, row.now)) }
+// Adds a finding if the request is incomplete. `over` says whether the run is over.
+fn add_left(
+    found: &mut Vec<Finding>,
+    moment: u32,
+    over: bool,
+    number: u32,
+    row: &Row,
+) -> Result<(), AllocError>
+    ensures { OnOk result (found.new.items ≡
+        found.old.items ++ of_left moment over (number, row.now)) }
 {
     let finding = Finding {
         moment,
-        kind: Kind::Left(LeftKind::Unfinished(Verdict::Fault)),
+        kind: Kind::Left(LeftKind::Unfinished(fault_if(over))),
         subject: number,
     };
     add_if(found, is_unfinished(row), finding)
 }
 
-/// Adds a finding for each incomplete request.
+/// Adds a finding for each incomplete request. `over` says whether the run is over.
 pub(crate) fn add_all_left(
     found: &mut Vec<Finding>,
     moment: u32,
+    over: bool,
     state: &State,
 ) -> Result<(), AllocError>
-    ensures { OnOk result (found.new.items ≡ found.old.items ++ all_left moment state.now.table) }
+    ensures { OnOk result (found.new.items ≡
+        found.old.items ++ all_left moment over state.now.table) }
 {
     let _first = row_at(state, 0);
     for number in 0..MOST_ROWS {
         match row_at(state, number) {
-            Some(row) => add_left(found, moment, number, &row)?,
+            Some(row) => add_left(found, moment, over, number, &row)?,
             None => return Ok(()),
         }
     }

@@ -12,6 +12,7 @@ mod effect;
 mod ends;
 mod files;
 mod following;
+pub mod laws;
 mod leftover;
 mod noting;
 mod ordering;

@@ -5,12 +5,13 @@ ghost use Rattle.places.specs.View.{NamesOnce};
 ghost use Rattle.scenario.specs.declared.event.Event.{Event};
 ghost use Rattle.machine.specs.Runs.{start, Accepts};
 ghost use Rattle.machine.specs.Whole.{view};
+ghost use Rattle.quiescence.specs.Over.{SaysOver};
 ghost use Rattle.runs.specs.Moments.{IsAt};
 ghost use Rattle.finding_kinds.specs.Programs.{instruction_at};
 ghost use Rattle.findings.specs.Findings.{IsReportOf};
 ghost use Rattle.findings.specs.Conditions.{overflows};
 ghost use Rattle.findings.specs.Conflicts.{done_as};
-ghost use Rattle.findings.specs.Records.{noted, of_change, of_overflow, of_step, of_cancel, of_effect, after_notes, all_left, all_unsynced};
+ghost use Rattle.findings.specs.Records.{noted, of_change, of_overflow, of_step, of_cancel, of_effect, after_notes, all_at_end};
 ghost use Rattle.findings.specs.Watched.{of_lasting};
 ghost use Rattle.findings.specs.Searching.{NotesFacts, HasSearched, Halted};
 
@@ -28,6 +29,7 @@ use crate::watching::{Watch, add_all_lasting, advance, watches_of};
 use finding_kinds::{Finding, History};
 use machine::{Event, Setup, State};
 use places::Record;
+use quiescence::is_over;
 use runs::{Ended, Observed, Observer, drive};
 use std::alloc::{AllocError, Global};
 
@@ -109,21 +111,33 @@ fn look(at: Transition<'_>, past: &Record, search: &mut Search) -> Result<(), Al
     add_effects(at, &mut search.found, &search.numbers)
 }
 
+// Returns whether the run is over: nothing more can happen but idle events.
+fn ends_over(setup: &Setup, state: &State) -> Result<bool, AllocError>
+    requires { length state.now.threads ≤ length setup.now.threads }
+    ensures { IfOk result (λ over. SaysOver over state.now) }
+{
+    match u32::try_from(setup.threads.as_slice().len()) {
+        Ok(threads) => Ok(is_over(state, threads)),
+        Err(_) => Err(AllocError),
+    }
+}
+
 // Adds the findings at the end: conditions that still hold, incomplete requests, and files that are
-// not durable.
+// not durable. `over` says whether the run is over.
 fn add_end(
     found: &mut Vec<Finding>,
+    over: bool,
     watches: &[Watch],
     setup: &Setup,
     moment: u32,
     state: &State,
 ) -> Result<(), AllocError>
     ensures { OnOk result (found.new.items ≡
-        (found.old.items ++ flat_map of_lasting watches.now)
-        ++ (all_left moment state.now.table ++ all_unsynced setup.now moment state.now.world)) }
+        (found.old.items ++ flat_map (of_lasting over) watches.now)
+        ++ all_at_end setup.now moment over state.now) }
 {
-    add_all_lasting(found, watches)?;
-    add_all_left(found, moment, state)?;
+    add_all_lasting(found, over, watches)?;
+    add_all_left(found, moment, over, state)?;
     add_all_unsynced(found, setup, moment, state)
 }
 
@@ -160,7 +174,9 @@ impl Search {
             history,
             ..
         } = self;
-        add_end(&mut found, &watches, setup, events.len() as u32, state)?;
+        let over = ends_over(setup, state)?;
+        let end = events.len() as u32;
+        add_end(&mut found, over, &watches, setup, end, state)?;
         Ok(Found {
             findings: in_order(found),
             history,

@@ -1,14 +1,20 @@
 //! Files with written bytes that are not durable at the end of a run (fsync(2)).
-ghost use Rattle.std.specs.Prelude.{◌≡◌, ℕ, ◌++◌, ◌<◌, ◌≤◌, true, false, OnOk, MatchBool};
+ghost use Rattle.std.specs.Prelude.{◌≡◌, ℕ, ◌++◌, ◌<◌, ◌≤◌, Some, true, false, OnOk, MatchBool};
 ghost use Rattle.places.specs.declared.place.Place.TheVariants.{FileByte, DurableByte};
 ghost use Rattle.machine.specs.Whole.{view};
+ghost use Rattle.findings.specs.AtEnd.{fault_if, is_fsync_of, has_fsync};
 ghost use Rattle.findings.specs.Conditions.{has_unsynced};
+ghost use Rattle.findings.specs.Conflicts.{file_of, are_one};
 ghost use Rattle.findings.specs.Records.{of_object, all_unsynced};
 ghost use Rattle.finding_kinds.specs.Values.{byte_in, differ};
 
-use crate::record::add_if;
-use finding_kinds::{Finding, Kind, LeftKind, Verdict, differs_at, number_at};
+use crate::files::file_of;
+use crate::leftover::row_at;
+use crate::watching::fault_if;
+use entries::Row;
+use finding_kinds::{Finding, Kind, LeftKind, MOST_ROWS, differs_at, number_at};
 use machine::{Setup, State};
+use opcodes::Op;
 use places::Place;
 use std::alloc::AllocError;
 
@@ -44,22 +50,58 @@ fn has_unsynced(state: &State, object: u32) -> bool
     differs_below(state, object, len)
 }
 
+// Returns whether a request is an FSYNC of the file.
+fn is_fsync_of(setup: &Setup, object: u32, row: &Row) -> bool
+    ensures { result ≡ is_fsync_of setup.now object row.now }
+{
+    if row.entry.opcode != Op::Fsync as u8 {
+        return false;
+    }
+    match file_of(setup, row.entry.fd) {
+        Some(file) => file == object,
+        None => false,
+    }
+}
+
+// Returns whether an FSYNC of the file was submitted.
+fn has_fsync(setup: &Setup, state: &State, object: u32) -> bool
+    ensures { result ≡ has_fsync setup.now state.now.table object }
+{
+    let _first = row_at(state, 0);
+    for number in 0..MOST_ROWS {
+        match row_at(state, number) {
+            Some(row) => {
+                if is_fsync_of(setup, object, &row) {
+                    return true;
+                }
+            }
+            None => return false,
+        }
+    }
+    false
+}
+
 // Adds a finding if the object is a file that isn't durable.
 fn add_unsynced(
     found: &mut Vec<Finding>,
+    setup: &Setup,
     moment: u32,
     state: &State,
     object: u32,
 ) -> Result<(), AllocError>
     ensures { OnOk result (found.new.items ≡
-        found.old.items ++ of_object moment state.now.world object) }
+        found.old.items ++ of_object setup.now moment state.now object) }
 {
-    let finding = Finding {
+    if !has_unsynced(state, object) {
+        return Ok(());
+    }
+    let verdict = fault_if(has_fsync(setup, state, object));
+    found.push(Finding {
         moment,
-        kind: Kind::Left(LeftKind::NotDurable(Verdict::Note)),
+        kind: Kind::Left(LeftKind::NotDurable(verdict)),
         subject: object,
-    };
-    add_if(found, has_unsynced(state, object), finding)
+    })?;
+    Ok(())
 }
 
 /// Adds a finding for each file that isn't durable.
@@ -70,13 +112,13 @@ pub(crate) fn add_all_unsynced(
     state: &State,
 ) -> Result<(), AllocError>
     ensures { OnOk result (found.new.items ≡
-        found.old.items ++ all_unsynced setup.now moment state.now.world) }
+        found.old.items ++ all_unsynced setup.now moment state.now) }
 {
     let Ok(objects) = u32::try_from(setup.objects.as_slice().len()) else {
         return Err(AllocError);
     };
     for object in 0..objects {
-        add_unsynced(found, moment, state, object)?;
+        add_unsynced(found, setup, moment, state, object)?;
     }
     Ok(())
 }

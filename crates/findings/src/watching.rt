@@ -1,9 +1,10 @@
 //! Conditions that are findings if they last to the end, with the moment since when each holds.
 ghost use Rattle.std.specs.Prelude.{◌≡◌, ◌++◌, map, IfOk, OnOk};
 ghost use Rattle.std.specs.List.{flat_map};
-ghost use Rattle.findings.specs.Watched.{continued, advanced, of_rings, watched, fresh, of_lasting};
+ghost use Rattle.findings.specs.AtEnd.{fault_if, reported_as};
+ghost use Rattle.findings.specs.Watched.{continued, advanced, of_rings, watched, fresh, numbers_below, of_kind, of_lasting};
 
-use crate::conditions::condition_holds;
+use crate::conditions::{Condition, condition_holds};
 use finding_kinds::{Finding, Kind, LastingKind, Verdict};
 use machine::{Setup, State};
 use std::alloc::{AllocError, Global};
@@ -11,7 +12,7 @@ use std::alloc::{AllocError, Global};
 /// A condition, and since which moment it has held; None if it doesn't hold.
 #[derive(Clone, Copy)]
 pub struct Watch {
-    pub kind: LastingKind,
+    pub condition: Condition,
     /// The thread in question, or 0 for the rings.
     pub subject: u32,
     pub since: Option<u32>,
@@ -34,10 +35,10 @@ fn advanced(setup: &Setup, state: &State, moment: u32, watch: Watch) -> Watch
     ensures { result ≡ advanced setup.now state.now moment watch }
 {
     Watch {
-        kind: watch.kind,
+        condition: watch.condition,
         subject: watch.subject,
         since: continued(
-            condition_holds(setup, watch.kind, state, watch.subject),
+            condition_holds(setup, watch.condition, state, watch.subject),
             watch.since,
             moment,
         ),
@@ -53,11 +54,11 @@ pub(crate) fn advance(setup: &Setup, state: &State, moment: u32, watches: &mut [
     }
 }
 
-fn fresh(kind: LastingKind, subject: u32) -> Watch
-    ensures { result ≡ fresh kind subject }
+fn fresh(condition: Condition, subject: u32) -> Watch
+    ensures { result ≡ fresh condition subject }
 {
     Watch {
-        kind,
+        condition,
         subject,
         since: None,
     }
@@ -67,10 +68,25 @@ fn watches_of_rings(alloc: Global) -> Result<Vec<Watch>, AllocError>
     ensures { IfOk result (λ list. list.items ≡ of_rings) }
 {
     let mut list = Vec::new(alloc);
-    list.push(fresh(LastingKind::LostWakeUp, 0))?;
-    list.push(fresh(LastingKind::NotTaken(Verdict::Fault), 0))?;
-    list.push(fresh(LastingKind::NotReaped, 0))?;
+    list.push(fresh(Condition::LostWakeUp, 0))?;
+    list.push(fresh(Condition::NotTaken, 0))?;
+    list.push(fresh(Condition::NotReaped, 0))?;
     Ok(list)
+}
+
+// Adds a condition of each thread.
+fn add_of_threads(
+    list: &mut Vec<Watch>,
+    condition: Condition,
+    threads: u32,
+) -> Result<(), AllocError>
+    ensures { OnOk result (list.new.items ≡
+        list.old.items ++ map (fresh condition) (numbers_below threads)) }
+{
+    for thread in 0..threads {
+        list.push(fresh(condition, thread))?;
+    }
+    Ok(())
 }
 
 /// Returns the conditions to watch for a setup: of its rings and of each thread.
@@ -81,22 +97,52 @@ pub(crate) fn watches_of(alloc: Global, setup: &Setup) -> Result<Vec<Watch>, All
         return Err(AllocError);
     };
     let mut list = watches_of_rings(alloc)?;
-    for thread in 0..threads {
-        list.push(fresh(LastingKind::Waits(Verdict::Fault), thread))?;
-    }
+    add_of_threads(&mut list, Condition::Waits, threads)?;
+    add_of_threads(&mut list, Condition::Stuck, threads)?;
     Ok(list)
 }
 
-// Adds a finding if the condition holds.
-fn add_lasting(found: &mut Vec<Finding>, watch: &Watch) -> Result<(), AllocError>
-    ensures { OnOk result (found.new.items ≡ found.old.items ++ of_lasting watch.now) }
+/// Returns a fault if the test is true, else a note.
+pub(crate) fn fault_if(test: bool) -> Verdict
+    ensures { result ≡ fault_if test }
 {
-    match watch.since {
-        Some(moment) => {
+    if test {
+        Verdict::Fault
+    } else {
+        Verdict::Note
+    }
+}
+
+// Returns the finding that a condition is if it lasts to the end. `over` says whether the run is
+// over then.
+fn reported_as(condition: Condition, over: bool) -> Option<LastingKind>
+    ensures { result ≡ reported_as condition over }
+{
+    match (condition, over) {
+        (Condition::Waits, _) => Some(LastingKind::Waits(fault_if(over))),
+        (Condition::LostWakeUp, _) => Some(LastingKind::LostWakeUp),
+        (Condition::NotTaken, _) => Some(LastingKind::NotTaken(fault_if(over))),
+        (Condition::NotReaped, _) => Some(LastingKind::NotReaped),
+        (Condition::Stuck, true) => Some(LastingKind::Stuck),
+        (Condition::Stuck, false) => None,
+    }
+}
+
+// Adds a finding about a condition that has held since a moment, if it has a kind.
+fn add_of_kind(
+    found: &mut Vec<Finding>,
+    subject: u32,
+    moment: u32,
+    kind: Option<LastingKind>,
+) -> Result<(), AllocError>
+    ensures { OnOk result (found.new.items ≡ found.old.items ++ of_kind subject moment kind) }
+{
+    match kind {
+        Some(kind) => {
             found.push(Finding {
                 moment,
-                kind: Kind::Lasting(watch.kind),
-                subject: watch.subject,
+                kind: Kind::Lasting(kind),
+                subject,
             })?;
             Ok(())
         }
@@ -104,12 +150,31 @@ fn add_lasting(found: &mut Vec<Finding>, watch: &Watch) -> Result<(), AllocError
     }
 }
 
-/// Adds a finding for each condition that holds.
-pub(crate) fn add_all_lasting(found: &mut Vec<Finding>, watches: &[Watch]) -> Result<(), AllocError>
-    ensures { OnOk result (found.new.items ≡ found.old.items ++ flat_map of_lasting watches.now) }
+// Adds a finding if the condition holds and is reported.
+fn add_lasting(found: &mut Vec<Finding>, over: bool, watch: &Watch) -> Result<(), AllocError>
+    ensures { OnOk result (found.new.items ≡ found.old.items ++ of_lasting over watch.now) }
+{
+    match watch.since {
+        Some(moment) => {
+            let kind = reported_as(watch.condition, over);
+            add_of_kind(found, watch.subject, moment, kind)
+        }
+        None => Ok(()),
+    }
+}
+
+/// Adds a finding for each condition that holds and is reported. `over` says whether the run is
+/// over at its end.
+pub(crate) fn add_all_lasting(
+    found: &mut Vec<Finding>,
+    over: bool,
+    watches: &[Watch],
+) -> Result<(), AllocError>
+    ensures { OnOk result (found.new.items ≡
+        found.old.items ++ flat_map (of_lasting over) watches.now) }
 {
     for watch in watches {
-        add_lasting(found, watch)?;
+        add_lasting(found, over, watch)?;
     }
     Ok(())
 }

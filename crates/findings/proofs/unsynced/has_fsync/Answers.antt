@@ -1,0 +1,29 @@
+use Rattle.std.proofs.Common.{◌≡◌, ◌≤◌, Bool, length, sym, ap, ◌∙◌, arith}
+use Rattle.std.specs.Prelude.{Option, Some, false}
+use Rattle.std.specs.Option.{option_map_or}
+use Rattle.entries.specs.declared.row.Row.{Row}
+use Rattle.findings.specs.AtEnd.{is_fsync_of}
+use Rattle.findings.proofs.Looking.{any_here, any_none, none_more}
+use Rattle.findings.proofs.Members.{none_after}
+use Rattle.findings.proofs.unsynced.has_fsync.Goals as goal
+
+passing : (test : Row → Bool) (o : Option Row) (row : Row) (b : Bool) → Some row ≡ o → test row ≡ b → option_map_or test o false ≡ b
+passing test o row b e t = ap (λ (x : Option Row). option_map_or test x false) (sym e) ∙ t
+
+pub loop-number-preserved : goal.loop-number-preserved
+loop-number-preserved c =
+    none_more (is_fsync_of c.args.setup.now c.args.object) _ c.loop-number.number c.loop-number.invariant
+    (passing (is_fsync_of c.args.setup.now c.args.object) _ c.in-Some.row _ c.in-Some.ensures.row (sym c.is_fsync_of.ensures ∙ c.if-is_fsync_of.false))
+
+pub returns-then-is_fsync_of : goal.returns-then-is_fsync_of
+returns-then-is_fsync_of c =
+    sym (any_here (is_fsync_of c.args.setup.now c.args.object) _ c.loop-number.number (passing (is_fsync_of c.args.setup.now c.args.object) _ c.in-Some.row _ c.in-Some.ensures.row (sym c.is_fsync_of.ensures ∙ c.if-is_fsync_of.true)))
+
+pub returns-in-None : goal.returns-in-None
+returns-in-None c =
+    sym (any_none (is_fsync_of c.args.setup.now c.args.object) _ c.loop-number.number c.loop-number.invariant (none_after _ c.loop-number.number (sym c.in-None.ensures.row)))
+
+pub returns : goal.returns
+returns c =
+    let l : length c.args.state.now.table ≤ c.loop-number.number = omega (arith, c.row_at-first.ensures.few) in
+    sym (any_none (is_fsync_of c.args.setup.now c.args.object) _ c.loop-number.number c.loop-number.invariant l)

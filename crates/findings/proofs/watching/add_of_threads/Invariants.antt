@@ -1,0 +1,6 @@
+use Rattle.std.proofs.Common.{◌≡◌, ◌++◌, map}
+use Rattle.findings.specs.Watched.{fresh, numbers_below}
+use Rattle.findings.proofs.watching.add_of_threads.Given as goal
+
+abbrev pub invariant-loop-thread : goal.invariant-loop-thread
+invariant-loop-thread l = l.list.items ≡ l.fn.list.items ++ map (fresh l.condition) (numbers_below l.thread)

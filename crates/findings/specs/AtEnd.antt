@@ -1,0 +1,52 @@
+-- What lasts or is left at the end of a run, and whether that is a fault.
+use Rattle.std.specs.Prelude.{ℕ, ◌==◌, Bool, true, false, not, ◌&&◌, nat_lt, Option, Some, None, slice_get, List, length}
+use Rattle.std.specs.Option.{option_map_or}
+use Rattle.std.specs.List.{list_any}
+use Rattle.entries.specs.declared.row.Row.{Row}
+use Rattle.links_drains.specs.Units.{is_open}
+use Rattle.scenario.specs.declared.setup.Setup.{Setup}
+use Rattle.machine.specs.declared.whole.Machine.{Machine}
+use Rattle.finding_kinds.specs.declared.kind.Verdict.{Verdict}
+use Rattle.finding_kinds.specs.declared.kind.Verdict.TheVariants.{Fault, Note}
+use Rattle.finding_kinds.specs.declared.kind.LastingKind.{LastingKind}
+use Rattle.finding_kinds.specs.declared.kind.LastingKind.TheVariants as lasting
+use Rattle.finding_kinds.specs.declared.kind.LeftKind.{LeftKind}
+use Rattle.finding_kinds.specs.declared.kind.LeftKind.TheVariants.{Unfinished, NotDurable}
+use Rattle.findings.specs.declared.conditions.Condition.{Condition}
+use Rattle.findings.specs.declared.conditions.Condition.TheVariants.{Waits, LostWakeUp, NotTaken, NotReaped, Stuck}
+use Rattle.findings.specs.Conditions.{has_unsynced}
+use Rattle.findings.specs.Endings.{is_verdict}
+use Rattle.findings.specs.Conflicts.{file_of, are_one}
+
+-- A fault if the test is true, else a note.
+abbrev pub fault_if : Bool → Verdict
+fault_if true = Fault
+fault_if false = Note
+
+-- The finding that a condition is if it lasts to the end. The Bool says whether the run is over
+-- then. If it isn't, the run just ends, and more events could follow: a thread that waits and
+-- entries that wait are notes, and a stuck thread is no finding.
+abbrev pub reported_as : Condition → Bool → Option LastingKind
+reported_as Waits over = Some (lasting.Waits (fault_if over))
+reported_as LostWakeUp over = Some lasting.LostWakeUp
+reported_as NotTaken over = Some (lasting.NotTaken (fault_if over))
+reported_as NotReaped over = Some lasting.NotReaped
+reported_as Stuck true = Some lasting.Stuck
+reported_as Stuck false = None
+
+-- Whether a request is an FSYNC of a file (fsync(2)).
+abbrev pub is_fsync_of : Setup → ℕ → Row → Bool
+is_fsync_of s o row = (row.entry.opcode == 3) && are_one (file_of s row.entry.fd) (Some o)
+
+-- Whether an FSYNC of a file was submitted.
+abbrev pub has_fsync : Setup → List Row → ℕ → Bool
+has_fsync s rows o = list_any (is_fsync_of s o) rows
+
+-- Whether a request or an object is a finding at the end. The Bool says whether the run is over
+-- then:
+--   Unfinished: the request is incomplete. A fault if the run is over.
+--   NotDurable: the object is a file with written bytes that are not durable. A fault if an FSYNC
+--     of the file was submitted.
+abbrev pub is_left : Setup → Bool → LeftKind → Machine → ℕ → Bool
+is_left s over (Unfinished verdict) m r = is_verdict verdict over && option_map_or is_open (slice_get m.table r) false
+is_left s over (NotDurable verdict) m o = is_verdict verdict (has_fsync s m.table o) && (nat_lt o (length s.objects) && has_unsynced m.world o)

@@ -1,0 +1,3 @@
+pub mod InFull
+pub mod Closed
+pub mod Staying
