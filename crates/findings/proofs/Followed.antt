@@ -29,7 +29,7 @@ use Rattle.findings.specs.Completions.{circumstances}
 use Rattle.findings.specs.Conditions.{overflows}
 use Rattle.findings.specs.Conflicts.{done_as, done_at}
 use Rattle.findings.specs.Findings.{EndsOver, occurs, occurs_at, Lasts, IsLeft, IsFinding, IsReportOf, Rises}
-use Rattle.findings.specs.Records.{members_of, severs_chain, drops, noted, of_change, of_overflow, of_step, of_cancel, of_event, of_effect, after_notes, Covers, Adds, FoundBefore, IsLasting, AreLeft, IsAll, all_at_end, SameFindings}
+use Rattle.findings.specs.Records.{members_of, severs_chain, cancels_at, noted, of_change, of_overflow, of_step, of_cancel, of_event, of_effect, after_notes, Covers, Adds, FoundBefore, IsLasting, AreLeft, IsAll, all_at_end, SameFindings}
 use Rattle.findings.specs.Searching.{facts_before, NotesFacts, HasSearched}
 use Rattle.findings.specs.Watched.{advanced, watched, of_lasting}
 use Rattle.findings.proofs.Lasting.{watched_first, advanced_more, lasting_reported}
@@ -154,7 +154,7 @@ added_by s i told b e n past fs now =
 
 -- After one more event.
 pub seen_more : (s : Setup) (es : List Event) (i : ℕ) (n : Machine) (e : Event) (b : Before) (past : List Change) (severing canceled : List Member) (fs gs : List Finding) (numbers now : List ℕ) (ws xs : List Watch)
-    → HasSearched s es i fs numbers ws → NotesFacts s es i b → IsAfter s es i e past n → WellFormed n → severing ≡ flat_map (members_of (severs_chain n.table) n.table) past → canceled ≡ flat_map (members_of drops n.table) past
+    → HasSearched s es i fs numbers ws → NotesFacts s es i b → IsAfter s es i e past n → WellFormed n → severing ≡ flat_map (members_of (severs_chain n.table) n.table) past → canceled ≡ flat_map (members_of cancels_at n.table) past
     → gs ≡ added_by s i (noted s severing canceled b e n) b e n past fs now → NamesOnce past → now ≡ after_notes (view n) numbers past
     → xs ≡ map (advanced s n (i + 1)) ws → HasSearched s es (i + 1) gs now xs
 seen_more s es i n e b past severing canceled fs gs numbers now ws xs h facts at formed severing_is canceled_is added once further w = record {

@@ -22,8 +22,8 @@ use Rattle.machine.specs.Whole.{view}
 use Rattle.finding_kinds.specs.declared.finding.Finding.{Finding}
 use Rattle.findings.specs.declared.completed.Member.{Member}
 use Rattle.findings.specs.Endings.{Circumstances, ending_of, is_error, severs}
-use Rattle.findings.specs.Completions.{is_short_of_end, is_severing, is_dropped, is_later, continues, member_of, any_passes, severs_others, is_severed, is_expiry_of, expires_over, expires_late, has_canceled_target, circumstances}
-use Rattle.findings.specs.Records.{row_in, of_place, of_change, of_row, member_if, members_at, members_of, severs_chain, drops, is_severed_in, noted}
+use Rattle.findings.specs.Completions.{is_short_of_end, is_severing, cancels, is_later, member_of, any_passes, severs_others, is_severed, is_expiry_of, expires_over, expires_over_ready, has_canceled_target, circumstances}
+use Rattle.findings.specs.Records.{row_in, of_place, of_change, of_row, member_if, members_at, members_of, continues, severs_chain, cancels_at, is_severed_in, noted}
 use Rattle.findings.specs.Searching.{facts_before}
 use Rattle.findings.proofs.Draining.{none_past}
 use Rattle.findings.proofs.Members.{Has, has_flat_map, none_after}
@@ -126,8 +126,8 @@ module _ (before next_state : Machine) (kept : ℕ → Option Row → Row → Bo
 severing_changes : NeedsChange is_severing
 severing_changes row = not_completed row (severs (Some row) row)
 
-dropped_changes : NeedsChange is_dropped
-dropped_changes row = and_right (not (is_guard row)) _ (not_completed row (is_error 125))
+canceled_changes : NeedsChange cancels
+canceled_changes row = and_right (not (is_guard row)) _ (not_completed row (is_error 125))
 
 -- ---- circumstances
 
@@ -165,18 +165,18 @@ abbrev severing_in : Machine → List Change → List Member
 severing_in next_state cs = flat_map (members_of (severs_chain next_state.table) next_state.table) cs
 
 abbrev canceled_in : Machine → List Change → List Member
-canceled_in next_state cs = flat_map (members_of drops next_state.table) cs
+canceled_in next_state cs = flat_map (members_of cancels_at next_state.table) cs
 
 module _ (before next_state : Machine) (cs : List Change) (x : Exact (view before) (view next_state) cs) (once : NamesOnce cs) (chained : Chained next_state.table) where
   others_severed : (y : Member) → list_any (is_later y) (canceled_in next_state cs) ≡ severs_others before.table next_state.table y
-  others_severed y = members_pass before next_state drops is_dropped (is_later y) (λ r old row t. t) (λ r old row k t f. t) cs dropped_changes x once
+  others_severed y = members_pass before next_state cancels_at cancels (is_later y) (λ r old row t. t) (λ r old row k t f. t) cs canceled_changes x once
 
   -- A request that severs others has a later one in its chain.
   others_continue : (r : ℕ) (row : Row) → slice_get next_state.table r ≡ Some row → continues next_state.table r row ≡ false → severs_others before.table next_state.table (member_of r row) ≡ false
   others_continue r row k e =
-      any_false (both_pass is_dropped (is_later (member_of r row)) before.table) (enumerate_from 0 next_state.table) (λ i p there.
-      numbered (both_pass is_dropped (is_later (member_of r row)) before.table) next_state.table i p (λ y h. false_from_ne_true (both_pass is_dropped (is_later (member_of r row)) before.table (i, y)) (λ t.
-      let parts = and_parts (is_dropped (slice_get before.table i) y) (is_later (member_of r row) (member_of i y)) t in
+      any_false (both_pass cancels (is_later (member_of r row)) before.table) (enumerate_from 0 next_state.table) (λ i p there.
+      numbered (both_pass cancels (is_later (member_of r row)) before.table) next_state.table i p (λ y h. false_from_ne_true (both_pass cancels (is_later (member_of r row)) before.table (i, y)) (λ t.
+      let parts = and_parts (cancels (slice_get before.table i) y) (is_later (member_of r row) (member_of i y)) t in
       let later = and_parts (nat_lt r i) (y.unit == row.unit) parts.1 in
       let other = and_parts (not (is_guard y)) (option_map_or (is_error 125) (ending_of (slice_get before.table i) y) false) parts.0 in
       false_true (sym e ∙ later_continues next_state.table r i row y chained k h (ltb-true r i later.0) (eqb-true y.unit row.unit later.1) (from_not (is_guard y) other.0)))) there)
@@ -193,7 +193,7 @@ module _ (before next_state : Machine) (cs : List Change) (x : Exact (view befor
       (λ r old row k t f. and_from (continues next_state.table r row) (is_severing old row) (continues_on r row k (and_parts (is_later (member_of r row) y) (severs_others before.table next_state.table (member_of r row)) f).1) t)
       cs severing_changes x once
 
-  -- Tests for a chain that goes on, and for a request that isn't the first of its chain, change nothing.
+  -- A request that severs others isn't the last of its chain, so that testing this changes nothing.
   others_noted : (r : ℕ) (row : Row) → slice_get next_state.table r ≡ Some row → (continues next_state.table r row && list_any (is_later (member_of r row)) (canceled_in next_state cs)) ≡ severs_others before.table next_state.table (member_of r row)
   others_noted r row k = ap (λ (b : Bool). continues next_state.table r row && b) (others_severed (member_of r row)) ∙ by (continues next_state.table r row) refl
     where
@@ -201,6 +201,7 @@ module _ (before next_state : Machine) (cs : List Change) (x : Exact (view befor
       by true e = refl
       by false e = sym (others_continue r row k e)
 
+  -- The first request of a chain is not severed.
   first_unsevered : (r : ℕ) (row : Row) → row.unit ≡ r → is_severed before.table next_state.table (member_of r row) ≡ false
   first_unsevered r row first =
       any_false (both_pass is_severing (severs_earlier before.table next_state.table (member_of r row)) before.table) (enumerate_from 0 next_state.table) (λ i p there.
@@ -222,7 +223,7 @@ module _ (before next_state : Machine) (cs : List Change) (x : Exact (view befor
 pub noted_told : (s : Setup) (before : Machine) (e : Event) (next_state : Machine) (cs : List Change) (r : ℕ) (row : Row) → Exact (view before) (view next_state) cs → NamesOnce cs → Chained next_state.table → slice_get next_state.table r ≡ Some row
     → noted s (severing_in next_state cs) (canceled_in next_state cs) (facts_before s before e) e next_state r row ≡ circumstances s before e next_state r row
 noted_told s before e next_state cs r row x once chained k =
-    let ready = is_expiry_of r e && (expires_late before e && has_canceled_target next_state.table row) in
+    let ready = is_expiry_of r e && (expires_over_ready before e && has_canceled_target next_state.table row) in
     let over = expires_over next_state.table e r in
     let named = (not (row.unit == r) && is_severed_in (severing_in next_state cs) (canceled_in next_state cs) (member_of r row)) || over in
     ap (λ (b : Bool). all_told (is_short_of_end s next_state row) b named ready) (others_noted before next_state cs x once chained r row k)

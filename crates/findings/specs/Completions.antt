@@ -15,7 +15,7 @@ use Rattle.machine.specs.Steps.{refusal}
 use Rattle.machine.specs.Whole.{view}
 use Rattle.machine.specs.declared.whole.Machine.{Machine}
 use Rattle.findings.specs.declared.completed.Member.{Member}
-use Rattle.findings.specs.Endings.{Circumstances, ending_of, is_error, next_in, result_in, severs}
+use Rattle.findings.specs.Endings.{Circumstances, ending_of, is_error, result_in, severs}
 use Rattle.findings.specs.Conflicts.{begins, file_of, moved, number_or_zero}
 
 -- ---- short transfers (read(2), write(2))
@@ -34,9 +34,10 @@ is_short_of_end s m row = (row.entry.opcode == 23) || option_map_or (ends_before
 abbrev pub is_severing : Option Row → Row → Bool
 is_severing before row = option_map_or (severs before row) (ending_of before row) false
 
--- Whether an event completes the request with ECANCELED, and it is no linked timeout.
-abbrev pub is_dropped : Option Row → Row → Bool
-is_dropped before row = not (is_guard row) && option_map_or (is_error 125) (ending_of before row) false
+-- Whether an event cancels the request, so that it completes with ECANCELED, and it is no linked
+-- timeout.
+abbrev pub cancels : Option Row → Row → Bool
+cancels before row = not (is_guard row) && option_map_or (is_error 125) (ending_of before row) false
 
 -- The number and the chain of request r.
 abbrev pub member_of : ℕ → Row → Member
@@ -46,10 +47,6 @@ member_of r row = record { number = r; unit = row.unit }
 abbrev pub is_later : Member → Member → Bool
 is_later x y = nat_lt x.number y.number && (y.unit == x.unit)
 
--- Whether the chain of request r has a later request, besides its linked timeout.
-abbrev pub continues : List Row → ℕ → Row → Bool
-continues rows r row = option_map_or (λ (other : Row). other.unit == row.unit) (next_in rows r) false
-
 -- Whether some request passes two tests: of the request before and after an event, and of its number
 -- and chain. `was` are all requests before the event, and `rows` all after it.
 abbrev pub any_passes : (Option Row → Row → Bool) → (Member → Bool) → List Row → List Row → Bool
@@ -57,7 +54,7 @@ any_passes test fits was rows = any_numbered (λ r row. test (slice_get was r) r
 
 -- Whether the event canceled a later request of x's chain.
 abbrev pub severs_others : List Row → List Row → Member → Bool
-severs_others was rows x = any_passes is_dropped (is_later x) was rows
+severs_others was rows x = any_passes cancels (is_later x) was rows
 
 -- Whether an earlier request severed x's chain in the event, and a later one than that was canceled.
 abbrev pub is_severed : List Row → List Row → Member → Bool
@@ -88,9 +85,9 @@ abbrev pub has_ready_target : Machine → Row → Bool
 has_ready_target m row = is_guard row && option_map_or (could_finish m) row.target false
 
 -- Whether the event is the expiry of such a linked timeout.
-abbrev pub expires_late : Machine → Event → Bool
-expires_late m (Expire g) = option_map_or (has_ready_target m) (slice_get m.table g) false
-expires_late m e = false
+abbrev pub expires_over_ready : Machine → Event → Bool
+expires_over_ready m (Expire g) = option_map_or (has_ready_target m) (slice_get m.table g) false
+expires_over_ready m e = false
 
 -- Whether a request completed with ECANCELED.
 abbrev pub was_canceled : Row → Bool
@@ -108,5 +105,5 @@ circumstances s before e after r row = record {
   short_of_end = is_short_of_end s after row;
   severs_others = severs_others before.table after.table (member_of r row);
   is_named = is_severed before.table after.table (member_of r row) || expires_over after.table e r;
-  was_ready = is_expiry_of r e && (expires_late before e && has_canceled_target after.table row);
+  was_ready = is_expiry_of r e && (expires_over_ready before e && has_canceled_target after.table row);
 }

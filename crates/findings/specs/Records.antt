@@ -37,8 +37,8 @@ use Rattle.findings.specs.declared.effect.Effect.{Effect}
 use Rattle.findings.specs.declared.effect.Effect.TheVariants.{Nothing}
 use Rattle.finding_kinds.specs.declared.finding.Finding.{Finding}
 use Rattle.findings.specs.AtEnd.{fault_if, has_fsync}
-use Rattle.findings.specs.Endings.{Circumstances, ended_test, queued_test}
-use Rattle.findings.specs.Completions.{is_short_of_end, is_severing, is_dropped, is_later, continues, member_of, is_expiry_of, expires_over, has_canceled_target, circumstances}
+use Rattle.findings.specs.Endings.{Circumstances, next_in, ended_test, queued_test}
+use Rattle.findings.specs.Completions.{is_short_of_end, is_severing, cancels, is_later, member_of, is_expiry_of, expires_over, has_canceled_target, circumstances}
 use Rattle.findings.specs.Canceling.{cancel_before, is_of_cancel}
 use Rattle.findings.specs.Conditions.{overflows, done_by, is_of_step, has_unsynced}
 use Rattle.findings.specs.Conflicts.{done_at, is_candidate, conflicts}
@@ -105,13 +105,17 @@ members_at test rows before _ = []
 abbrev pub members_of : (ℕ → Option Row → Row → Bool) → List Row → Change → List Member
 members_of test rows c = members_at test rows c.old c.place
 
+-- Whether the chain of request r has a later request, besides its linked timeout.
+abbrev pub continues : List Row → ℕ → Row → Bool
+continues rows r row = option_map_or (λ (other : Row). other.unit == row.unit) (next_in rows r) false
+
 -- Whether an event completes request r, and it severs its chain, which has a later request.
 abbrev pub severs_chain : List Row → ℕ → Option Row → Row → Bool
 severs_chain rows r before row = continues rows r row && is_severing before row
 
--- Whether an event completes request r with ECANCELED, and it is no linked timeout.
-abbrev pub drops : ℕ → Option Row → Row → Bool
-drops r before row = is_dropped before row
+-- Whether an event cancels request r, which is no linked timeout.
+abbrev pub cancels_at : ℕ → Option Row → Row → Bool
+cancels_at r before row = cancels before row
 
 -- Whether an earlier request severed x's chain, and a later one than that was canceled, by all
 -- requests that did so in an event.

@@ -10,7 +10,7 @@ use Rattle.finding_kinds.specs.declared.finding.Finding.{Finding}
 use Rattle.findings.specs.declared.conditions.Before.{Before}
 use Rattle.findings.specs.declared.watching.Watch.{Watch}
 use Rattle.findings.specs.Canceling.{cancel_before}
-use Rattle.findings.specs.Completions.{expires_late}
+use Rattle.findings.specs.Completions.{expires_over_ready}
 use Rattle.findings.specs.Conditions.{overflows, counter_of, done_by}
 use Rattle.findings.specs.Findings.{condition_holds_at}
 use Rattle.findings.specs.Records.{Covers, FoundBefore}
@@ -24,7 +24,7 @@ facts_before s m e = record {
   counter = counter_of m e;
   changes = changes_at m (done_by s m e);
   cancel = cancel_before m e;
-  was_ready = expires_late m e;
+  was_ready = expires_over_ready m e;
 }
 
 -- The facts before event i of a run.

@@ -6,7 +6,7 @@ ghost use Rattle.std.specs.List.{list_any};
 ghost use Rattle.links_drains.specs.Holding.{is_number};
 ghost use Rattle.findings.specs.Endings.{is_verdict};
 ghost use Rattle.findings.specs.Conflicts.{moved, file_of};
-ghost use Rattle.findings.specs.Completions.{ends_before, is_short_of_end, is_later, member_of, limits, expires_over, could_finish, has_ready_target, expires_late, was_canceled, has_canceled_target};
+ghost use Rattle.findings.specs.Completions.{ends_before, is_short_of_end, is_later, member_of, limits, expires_over, could_finish, has_ready_target, expires_over_ready, was_canceled, has_canceled_target};
 ghost use Rattle.findings.specs.Records.{is_severed_in, noted};
 
 use crate::completed::{Completed, Member};
@@ -103,7 +103,7 @@ fn severs(canceled: &[Member], member: Member, other: Member) -> bool
     is_later(member, other) && has_later(canceled, member)
 }
 
-// Returns whether an earlier request of the chain severed it.
+// Returns whether an earlier request severed the member's chain.
 fn is_severed(severing: &[Member], canceled: &[Member], member: Member) -> bool
     ensures { result ≡ is_severed_in severing.now canceled.now member }
 {
@@ -112,7 +112,8 @@ fn is_severed(severing: &[Member], canceled: &[Member], member: Member) -> bool
         .any(|other| severs(canceled, *other, member))
 }
 
-// Returns the same for a request. The first request of a chain has no earlier one.
+// Returns whether an earlier request severed the chain of the request. The first request of a chain
+// has no earlier one.
 fn is_row_severed(completed: &Completed, number: u32, row: &Row) -> bool
     ensures { result ≡ (not (row.now.unit == number) && is_severed_in
         completed.now.severing.items completed.now.canceled.items
@@ -197,8 +198,8 @@ fn has_ready_target(state: &State, row: &Row) -> bool
 
 /// Returns whether the event is the expiry of a linked timeout whose target could complete in full,
 /// by the state before it.
-pub(crate) fn expires_late(state: &State, event: Event) -> bool
-    ensures { result ≡ expires_late state.now event }
+pub(crate) fn expires_over_ready(state: &State, event: Event) -> bool
+    ensures { result ≡ expires_over_ready state.now event }
 {
     let Event::Expire(number) = event else {
         return false;

@@ -3,10 +3,10 @@
 ghost use Rattle.std.specs.Prelude.{◌≡◌, ◌++◌, IfOk, OnOk};
 ghost use Rattle.std.specs.List.{flat_map};
 ghost use Rattle.machine.specs.Whole.{WellFormed};
-ghost use Rattle.findings.specs.Records.{member_if, members_at, members_of, severs_chain, drops};
+ghost use Rattle.findings.specs.Records.{member_if, members_at, members_of, severs_chain, cancels_at};
 
 use crate::changes::pass_over;
-use crate::ends::{continues, is_dropped, is_severing};
+use crate::ends::{cancels, continues, is_severing};
 use crate::leftover::row_at;
 use crate::record::row_in;
 use entries::Row;
@@ -54,7 +54,7 @@ fn add_row(
     ensures severing { OnOk result (completed.new.severing.items ≡ completed.old.severing.items
         ++ members_at (severs_chain state.now.table) state.now.table old (Place.Request number)) }
     ensures canceled { OnOk result (completed.new.canceled.items ≡ completed.old.canceled.items
-        ++ members_at drops state.now.table old (Place.Request number)) }
+        ++ members_at cancels_at state.now.table old (Place.Request number)) }
 {
     let Some(row) = row_at(state, number) else {
         return Ok(());
@@ -62,7 +62,7 @@ fn add_row(
     let before = row_in(old);
     let severing = continues(state, number, &row) && is_severing(&before, &row);
     add_member(&mut completed.severing, severing, number, &row)?;
-    let canceled = is_dropped(&before, &row);
+    let canceled = cancels(&before, &row);
     add_member(&mut completed.canceled, canceled, number, &row)
 }
 
@@ -70,7 +70,7 @@ fn add_change(completed: &mut Completed, state: &State, change: Change) -> Resul
     ensures severing { OnOk result (completed.new.severing.items ≡ completed.old.severing.items
         ++ members_of (severs_chain state.now.table) state.now.table change) }
     ensures canceled { OnOk result (completed.new.canceled.items ≡ completed.old.canceled.items
-        ++ members_of drops state.now.table change) }
+        ++ members_of cancels_at state.now.table change) }
 {
     let Place::Request(number) = change.place else {
         return Ok(());
@@ -86,7 +86,7 @@ fn add_changes(
     ensures severing { OnOk result (completed.new.severing.items ≡ completed.old.severing.items
         ++ flat_map (members_of (severs_chain state.now.table) state.now.table) rest.old) }
     ensures canceled { OnOk result (completed.new.canceled.items ≡ completed.old.canceled.items
-        ++ flat_map (members_of drops state.now.table) rest.old) }
+        ++ flat_map (members_of cancels_at state.now.table) rest.old) }
 {
     while let Some(change) = rest.next() {
         add_change(completed, state, change)?;
@@ -103,7 +103,7 @@ pub(crate) fn completed_by(
     ensures severing { IfOk result (λ completed. completed.severing.items
         ≡ flat_map (members_of (severs_chain state.now.table) state.now.table) past.now) }
     ensures canceled { IfOk result (λ completed. completed.canceled.items
-        ≡ flat_map (members_of drops state.now.table) past.now) }
+        ≡ flat_map (members_of cancels_at state.now.table) past.now) }
     ensures formed { WellFormed state.now }
 {
     let _first = row_at(state, 0);

@@ -9,7 +9,7 @@ ghost use Rattle.machine.specs.Steps.{number_in};
 ghost use Rattle.findings.specs.Searching.{facts_before};
 
 use crate::canceling::{Cancel, cancel_before};
-use crate::circumstances::expires_late;
+use crate::circumstances::expires_over_ready;
 use crate::uses::{Sought, changes_at, first_pushed, is_held, is_named, is_pushed_last};
 use entries::{EBADF, EBUSY, EINVAL, IORING_SQ_CQ_OVERFLOW, IORING_SQ_NEED_WAKEUP};
 use finding_kinds::{StepKind, descriptor_number, instruction_at};
@@ -56,7 +56,7 @@ impl Before {
             counter,
             changes: changes_at(state, instruction_at(setup, event, counter)),
             cancel: cancel_before(state, event),
-            was_ready: expires_late(state, event),
+            was_ready: expires_over_ready(state, event),
         }
     }
 }

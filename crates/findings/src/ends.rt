@@ -4,8 +4,8 @@ ghost use Rattle.std.specs.Option.{option_map_or};
 ghost use Rattle.timeouts_cancel.specs.Cascades.{is_bad, is_transfer};
 ghost use Rattle.links_drains.specs.Links.{has_flag, is_guard, is_linked};
 ghost use Rattle.findings.specs.Endings.{had_ended, was_issued, result_in, ending_of, is_error, is_less, is_reported_apart, severs, next_in, has_next, leaves_chain, is_of, has_idle_field, comes_as, ended_test, queued_test};
-ghost use Rattle.findings.specs.Completions.{is_severing, is_dropped, continues};
-ghost use Rattle.findings.specs.Records.{noted};
+ghost use Rattle.findings.specs.Completions.{is_severing, cancels};
+ghost use Rattle.findings.specs.Records.{continues, noted};
 
 use crate::circumstances::{is_named, is_verdict, is_short_of_end, severs_others, was_ready};
 use crate::leftover::row_at;
@@ -156,9 +156,9 @@ fn is_canceled_now(before: &Option<Row>, row: &Row) -> bool
     }
 }
 
-/// Returns whether the event completes the request with ECANCELED, and it is no linked timeout.
-pub(crate) fn is_dropped(before: &Option<Row>, row: &Row) -> bool
-    ensures { result ≡ is_dropped before.now row.now }
+/// Returns whether the event cancels the request, and it is no linked timeout.
+pub(crate) fn cancels(before: &Option<Row>, row: &Row) -> bool
+    ensures { result ≡ cancels before.now row.now }
 {
     !is_guard(row) && is_canceled_now(before, row)
 }

@@ -1,4 +1,4 @@
-use Rattle.findings.specs.Records.{severs_chain, drops}
+use Rattle.findings.specs.Records.{severs_chain, cancels_at}
 use Rattle.findings.proofs.Passing.{all_members}
 use Rattle.findings.proofs.completed.completed_by.Goals as goal
 
@@ -8,4 +8,4 @@ returns-clause-severing c =
 
 pub returns-clause-canceled : goal.returns-clause-canceled
 returns-clause-canceled c =
-    all_members drops c.args.state.now.table _ _ _ _ _ _ _ c.parts-first.ensures.value c.pass_over.ensures c.new-2.ensures.items c.in_ok-add_changes.ensures.canceled c.in_ok-add_changes-2.ensures.canceled
+    all_members cancels_at c.args.state.now.table _ _ _ _ _ _ _ c.parts-first.ensures.value c.pass_over.ensures c.new-2.ensures.items c.in_ok-add_changes.ensures.canceled c.in_ok-add_changes-2.ensures.canceled
