@@ -1,30 +1,22 @@
 -- The eager run of a schedule, event by event.
-use Rattle.std.proofs.Common.{◌≡◌, ◌⊎◌, inl, inr, ℕ, ◌+◌, ◌<◌, ◌≤◌, Bool, true, false, List, [], ◌∷◌, ◌++◌, length, take, get_or, append-nil, append_assoc, Result, Ok, Err, refl, sym, ap, ◌∙◌, subst}
-use Rattle.std.specs.Prelude.{Option, Some, None, OnOk, slice_get}
+use Rattle.std.proofs.Common.{◌≡◌, ℕ, ◌+◌, ◌<◌, ◌≤◌, List, [], ◌∷◌, ◌++◌, length, take, get_or, append-nil, append_assoc, refl, sym, ap, ◌∙◌, subst}
+use Rattle.std.specs.Prelude.{Some, None}
 use Rattle.std.proofs.lemmas.List.{take_more, take_all}
 use Rattle.std.proofs.lemmas.Option.{slice_get-get_or}
 use Rattle.scenario.specs.declared.event.Event.{Event}
 use Rattle.scenario.specs.declared.event.Refusal.{Refusal}
-use Rattle.scenario.specs.declared.event.Refusal.TheVariants.{Memory}
 use Rattle.scenario.specs.declared.setup.Setup.{Setup}
 use Rattle.machine.specs.declared.whole.Machine.{Machine}
-use Rattle.machine.specs.Steps.{refusal, after}
+use Rattle.machine.specs.Steps.{after}
 use Rattle.machine.specs.Runs.{run, start, Accepts}
 use Rattle.inverse_log.proofs.Runs.{run-append, run-push, accepts-append}
 use Rattle.live_runner.specs.Offers.{eager_offer}
 use Rattle.debug_server.specs.Eager.{Adds, IsWork, FollowsOne, Follows, RefusesOne, Stops, IsEager, IsRefusedEagerly, is_due}
-use Rattle.debug_server.specs.Kinds.{IsOf, OfSchedule, OfMemory}
-use Rattle.debug_server.specs.Schedules.{fault_by}
-use Rattle.debug_server.specs.declared.faults.RunFault.{RunFault}
-use Rattle.debug_server.specs.declared.faults.RunFault.TheVariants.{Schedule, Memory as OutOfMemory}
 
 -- ---- Events that are added
 
 adds_none : (m : Machine) (before : List Event) → Adds m before [] m before
 adds_none m before = record { accepts = tt; here = refl; there = sym (append-nil before) }
-
-pub adds_one : (m n : Machine) (before events : List Event) (e : Event) → refusal m e ≡ None → n ≡ after m e → events ≡ before ++ e ∷ [] → Adds m before (e ∷ []) n events
-adds_one m n before events e accepted here there = record { accepts = (accepted, tt); here = here; there = there }
 
 adds_both : (m n o : Machine) (before es events fs more : List Event) → Adds m before es n events → Adds n events fs o more → Adds m before (es ++ fs) o more
 adds_both m n o before es events fs more a b = record {
@@ -53,39 +45,6 @@ works_on m n o before events more e w offered a = record {
 
 pub worked : (m n : Machine) (before events : List Event) → Working m before n events → eager_offer n ≡ None → (work : List Event) × IsWork m work × Adds m before work n events
 worked m n before events w none = (w.work, subst (λ (x : List Event). IsWork m x) (append-nil w.work) (w.completes [] none), w.adds)
-
--- ---- One event of the schedule
-
-pub not_due : (b : Bool) (m : Machine) (e : Event) (before : List Event) → b ≡ false → (added : List Event) × FollowsOne b m e added × Adds m before added m before
-not_due false m e before h = ([], refl, adds_none m before)
-not_due true m e before h = absurd (cc)
-
-pub due : (b : Bool) (m n o : Machine) (e : Event) (before events more : List Event) → b ≡ true → Adds m before (e ∷ []) n events
-    → (work : List Event) × IsWork n work × Adds n events work o more → (added : List Event) × FollowsOne b m e added × Adds m before added o more
-due true m n o e before events more h a w =
-    (e ∷ w.0, (w.0, refl, subst (λ (x : Machine). IsWork x w.0) a.here w.1), adds_both m n o before (e ∷ []) events w.0 more a w.2)
-due false m n o e before events more h a w = absurd (cc)
-
--- The fault of an event that is refused has its index and the reason.
-named : (at : ℕ) (n : Refusal) (i : ℕ) (k : Refusal) → fault_by at n ≡ Schedule i k → (i ≡ at) × (n ≡ k)
-named at Memory i k h = absurd (cc)
-named at n i k h = let same : i ≡ at = cc in let reason : n ≡ k = cc in (same, reason)
-
-no_memory : (at i : ℕ) (n k : Refusal) → n ≡ Memory → fault_by at n ≡ Schedule i k → ⊥
-no_memory at i n k m h = let none : fault_by at n ≡ OutOfMemory = ap (λ (x : Refusal). fault_by at x) m in absurd (cc)
-
-pub refused_by : (at : ℕ) (o : Option Refusal) (n : Refusal) → (o ≡ Some n) ⊎ (n ≡ Memory) → (i : ℕ) (k : Refusal) → fault_by at n ≡ Schedule i k → (i ≡ at) × (o ≡ Some k)
-refused_by at o n (inl e) i k h = let it = named at n i k h in (it.0, e ∙ ap Some it.1)
-refused_by at o n (inr e) i k h = absurd (no_memory at i n k e h)
-
-pub of_fault : (at : ℕ) (n : Refusal) → IsOf (OfSchedule ∷ OfMemory ∷ []) (fault_by at n)
-of_fault at Memory = refl
-of_fault at n = refl
-
--- A step was refused by a rule, or for lack of memory.
-pub step_refused : (o : Option Refusal) (n : Refusal) → ((k : Refusal) → o ≡ Some k → n ≡ k) → (o ≡ None → n ≡ Memory) → (o ≡ Some n) ⊎ (n ≡ Memory)
-step_refused (Some k) n refused memory = inl (ap Some (sym (refused k refl)))
-step_refused None n refused memory = inr (memory refl)
 
 -- ---- A schedule
 
