@@ -43,6 +43,25 @@ pub struct Met {
     pub slot: u32,
 }
 
+/// An FSYNC that completed with -5 (EIO).
+#[derive(Clone, Copy)]
+pub struct Failure {
+    /// The number of the request.
+    pub row: u32,
+    /// The moment before the event that completed it.
+    pub moment: u32,
+}
+
+/// An FSYNC that completed without error, at this moment, after one of its file had failed.
+#[derive(Clone, Copy)]
+pub struct Retry {
+    pub moment: u32,
+    /// The last FSYNC of the file that had failed.
+    pub failure: Failure,
+    /// How many bytes of the file were not durable when an FSYNC failed, and were not written since.
+    pub bytes: u32,
+}
+
 /// When requests changed phase, and other facts that sentences refer to.
 pub struct History {
     /// One element per request.
@@ -56,6 +75,8 @@ pub struct History {
     pub emptied: Vec<u32>,
     /// For each event that dropped indexes, in order: its moment, and sq.dropped after it.
     pub dropped: Vec<(u32, u32)>,
+    /// In the order of their moments, one per FSYNC that was retried.
+    pub retries: Vec<Retry>,
 }
 
 impl Drop for History {
@@ -66,6 +87,7 @@ impl Drop for History {
             slots: _,
             emptied: _,
             dropped: _,
+            retries: _,
         } = self;
     }
 }
@@ -79,6 +101,7 @@ impl History {
             slots: Vec::new(alloc),
             emptied: Vec::new(alloc),
             dropped: Vec::new(alloc),
+            retries: Vec::new(alloc),
         }
     }
 }

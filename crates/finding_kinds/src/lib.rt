@@ -16,7 +16,7 @@ mod values;
 pub use chains::distance_to_next;
 pub use descriptors::{FIRST_DESCRIPTOR, descriptor_number};
 pub use finding::Finding;
-pub use history::{History, Met, Times};
+pub use history::{Failure, History, Met, Retry, Times};
 pub use kind::{
     CancelKind, ConflictKind, EndedKind, Kind, LastingKind, LeftKind, QueuedKind, StepKind, Verdict,
 };

@@ -8,10 +8,11 @@ use Rattle.finding_kinds.specs.declared.finding.Finding.{Finding}
 use Rattle.finding_kinds.specs.declared.kind.Kind.{Kind}
 use Rattle.finding_kinds.specs.declared.kind.EndedKind.{EndedKind}
 use Rattle.finding_kinds.specs.declared.kind.EndedKind.TheVariants.{Failed, Short, Severed, Canceled, TimedOut, Expired, NotFound, TooLate, WentOn}
+use Rattle.finding_kinds.specs.declared.kind.Verdict.TheVariants.{Fault, Note}
 use Rattle.finding_kinds.specs.declared.kind.ConflictKind.{ConflictKind}
 use Rattle.finding_kinds.specs.declared.kind.ConflictKind.TheVariants.{BufferInUse, Unordered, SharedPosition, FsyncEarly}
 use Rattle.finding_kinds.specs.declared.kind.StepKind.{StepKind}
-use Rattle.finding_kinds.specs.declared.kind.StepKind.TheVariants.{Busy, TakenShort, NoSuchSlot, SlotInUse, ClosedEarly, ClosedWhileHeld, RefusedFlags}
+use Rattle.finding_kinds.specs.declared.kind.StepKind.TheVariants.{Busy, TakenShort, NoSuchSlot, SlotInUse, ClosedEarly, ClosedWhileHeld, RefusedFlags, ClosedTwice}
 use Rattle.finding_kinds.specs.declared.kind.QueuedKind.{QueuedKind}
 use Rattle.finding_kinds.specs.declared.kind.QueuedKind.TheVariants.{CutOff, NoEffect, SameUserData}
 use Rattle.finding_kinds.specs.declared.kind.CancelKind.{CancelKind}
@@ -59,20 +60,23 @@ group_more {K = K} whole test i n kinds k d b start found now l t h g =
 
 pub is_ended_kind : (kind : EndedKind) → Has ended_kinds kind
 is_ended_kind Failed = inl refl
-is_ended_kind Short = inr (inl refl)
-is_ended_kind Severed = inr (inr (inl refl))
-is_ended_kind Canceled = inr (inr (inr (inl refl)))
-is_ended_kind TimedOut = inr (inr (inr (inr (inl refl))))
-is_ended_kind Expired = inr (inr (inr (inr (inr (inl refl)))))
-is_ended_kind NotFound = inr (inr (inr (inr (inr (inr (inl refl))))))
-is_ended_kind TooLate = inr (inr (inr (inr (inr (inr (inr (inl refl)))))))
-is_ended_kind WentOn = inr (inr (inr (inr (inr (inr (inr (inr (inl refl))))))))
+is_ended_kind (Short Fault) = inr (inl refl)
+is_ended_kind (Short Note) = inr (inr (inl refl))
+is_ended_kind Severed = inr (inr (inr (inl refl)))
+is_ended_kind Canceled = inr (inr (inr (inr (inl refl))))
+is_ended_kind (TimedOut Fault) = inr (inr (inr (inr (inr (inl refl)))))
+is_ended_kind (TimedOut Note) = inr (inr (inr (inr (inr (inr (inl refl))))))
+is_ended_kind Expired = inr (inr (inr (inr (inr (inr (inr (inl refl)))))))
+is_ended_kind NotFound = inr (inr (inr (inr (inr (inr (inr (inr (inl refl))))))))
+is_ended_kind TooLate = inr (inr (inr (inr (inr (inr (inr (inr (inr (inl refl)))))))))
+is_ended_kind WentOn = inr (inr (inr (inr (inr (inr (inr (inr (inr (inr (inl refl))))))))))
 
 pub is_conflict_kind : (kind : ConflictKind) → Has conflict_kinds kind
 is_conflict_kind BufferInUse = inl refl
 is_conflict_kind Unordered = inr (inl refl)
 is_conflict_kind SharedPosition = inr (inr (inl refl))
-is_conflict_kind FsyncEarly = inr (inr (inr (inl refl)))
+is_conflict_kind (FsyncEarly Fault) = inr (inr (inr (inl refl)))
+is_conflict_kind (FsyncEarly Note) = inr (inr (inr (inr (inl refl))))
 
 pub is_step_kind : (kind : StepKind) → Has step_kinds kind
 is_step_kind Busy = inl refl
@@ -82,6 +86,7 @@ is_step_kind SlotInUse = inr (inr (inr (inl refl)))
 is_step_kind ClosedEarly = inr (inr (inr (inr (inl refl))))
 is_step_kind ClosedWhileHeld = inr (inr (inr (inr (inr (inl refl)))))
 is_step_kind RefusedFlags = inr (inr (inr (inr (inr (inr (inl refl))))))
+is_step_kind ClosedTwice = inr (inr (inr (inr (inr (inr (inr (inl refl)))))))
 
 pub is_queued_kind : (kind : QueuedKind) → Has queued_kinds kind
 is_queued_kind CutOff = inl refl

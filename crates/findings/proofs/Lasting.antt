@@ -15,6 +15,7 @@ use Rattle.finding_kinds.specs.declared.kind.Kind.{Kind}
 use Rattle.finding_kinds.specs.declared.kind.Kind.TheVariants.{Lasting}
 use Rattle.finding_kinds.specs.declared.kind.LastingKind.{LastingKind}
 use Rattle.finding_kinds.specs.declared.kind.LastingKind.TheVariants.{Waits, LostWakeUp, NotTaken, NotReaped}
+use Rattle.finding_kinds.specs.declared.kind.Verdict.TheVariants.{Fault}
 use Rattle.findings.specs.declared.watching.Watch.{Watch}
 use Rattle.findings.specs.Conditions.{condition_holds, Began}
 use Rattle.findings.specs.Findings.{condition_holds_at, LastsSince, Lasts}
@@ -100,16 +101,16 @@ begins_since holds n i b = by (since_of holds n) (since_is holds n)
 
 -- ---- watched conditions
 
-threads_first : (s : Setup) (es : List Event) (ns : List ℕ) → map (advanced s (start s) zero) (map (fresh Waits) ns) ≡ map (watch_at s es zero) (map (fresh Waits) ns)
+threads_first : (s : Setup) (es : List Event) (ns : List ℕ) → map (advanced s (start s) zero) (map (fresh (Waits Fault)) ns) ≡ map (watch_at s es zero) (map (fresh (Waits Fault)) ns)
 unfolding since_of
 threads_first s es [] = refl
-threads_first s es (n ∷ ns) = ap (λ (ws : List Watch). watch_at s es zero (fresh Waits n) ∷ ws) (threads_first s es ns)
+threads_first s es (n ∷ ns) = ap (λ (ws : List Watch). watch_at s es zero (fresh (Waits Fault) n) ∷ ws) (threads_first s es ns)
 
 -- At the start.
 pub watched_first : (s : Setup) (es : List Event) → map (advanced s (start s) zero) (watched s) ≡ map (watch_at s es zero) (watched s)
 unfolding since_of
 watched_first s es =
-    ap (λ (ws : List Watch). watch_at s es zero (fresh LostWakeUp zero) ∷ watch_at s es zero (fresh NotTaken zero) ∷ watch_at s es zero (fresh NotReaped zero) ∷ ws) (threads_first s es (numbers_below (length s.threads)))
+    ap (λ (ws : List Watch). watch_at s es zero (fresh LostWakeUp zero) ∷ watch_at s es zero (fresh (NotTaken Fault) zero) ∷ watch_at s es zero (fresh NotReaped zero) ∷ ws) (threads_first s es (numbers_below (length s.threads)))
 
 advanced_next : (s : Setup) (es : List Event) (i : ℕ) (ws : List Watch) → map (advanced s (machine_at s es (suc i)) (suc i)) (map (watch_at s es i) ws) ≡ map (watch_at s es (suc i)) ws
 unfolding since_of
@@ -161,7 +162,7 @@ watches_last s es [] = All-nil (Lasts s es)
 watches_last s es (w ∷ ws) =
     All-append (Lasts s es) (of_lasting (watch_at s es (length es) w)) (flat_map of_lasting (map (watch_at s es (length es)) ws)) (watch_lasts s es w) (watches_last s es ws)
 
-has_map : {X Y : Type 0} (f : X → Y) (xs : List X) (x : X) → Has xs x → Has (map f xs) (f x)
+pub has_map : {X Y : Type 0} (f : X → Y) (xs : List X) (x : X) → Has xs x → Has (map f xs) (f x)
 has_map f [] x h = absurd h
 has_map f (y ∷ ys) x (inl e) = inl (ap f e)
 has_map f (y ∷ ys) x (inr h) = inr (has_map f ys x h)
@@ -177,11 +178,12 @@ below_there n (suc m) l =
 -- Each condition that can hold is watched.
 watched_has : (s : Setup) (kind : LastingKind) (m : Machine) (n : ℕ) → condition_holds s kind m n ≡ true → Has (watched s) (fresh kind n)
 watched_has s LostWakeUp m n h = let e : n ≡ zero = eqb-true n zero (and_parts _ _ h).0 in inl (ap (fresh LostWakeUp) (sym e))
-watched_has s NotTaken m n h = let e : n ≡ zero = eqb-true n zero (and_parts _ _ h).0 in inr (inl (ap (fresh NotTaken) (sym e)))
+watched_has s (NotTaken Fault) m n h = let e : n ≡ zero = eqb-true n zero (and_parts _ _ h).0 in inr (inl (ap (fresh (NotTaken Fault)) (sym e)))
 watched_has s NotReaped m n h = let e : n ≡ zero = eqb-true n zero (and_parts _ _ h).0 in inr (inr (inl (ap (fresh NotReaped) (sym e))))
-watched_has s Waits m n h =
+watched_has s (Waits Fault) m n h =
     let l : n < length s.threads = ltb-true n (length s.threads) (and_parts _ _ h).0 in
-    inr (inr (inr (has_map (fresh Waits) (numbers_below (length s.threads)) n (below_there n (length s.threads) l))))
+    inr (inr (inr (has_map (fresh (Waits Fault)) (numbers_below (length s.threads)) n (below_there n (length s.threads) l))))
+watched_has s _ m n h = absurd (false_true h)
 
 watch_reported : (s : Setup) (es : List Event) (i : ℕ) (kind : LastingKind) (n : ℕ) → Began (condition_holds_at s es kind n) (length es) i → Has (flat_map of_lasting (map (watch_at s es (length es)) (watched s))) (the_finding i (Lasting kind) n)
 watch_reported s es i kind n h =

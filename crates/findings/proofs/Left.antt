@@ -19,6 +19,7 @@ use Rattle.finding_kinds.specs.declared.kind.Kind.{Kind}
 use Rattle.finding_kinds.specs.declared.kind.Kind.TheVariants.{Left}
 use Rattle.finding_kinds.specs.declared.kind.LeftKind.{LeftKind}
 use Rattle.finding_kinds.specs.declared.kind.LeftKind.TheVariants.{Unfinished, NotDurable}
+use Rattle.finding_kinds.specs.declared.kind.Verdict.TheVariants.{Fault, Note}
 use Rattle.findings.specs.Conditions.{has_unsynced, is_left}
 use Rattle.findings.specs.Findings.{IsLeftAt, IsLeft}
 use Rattle.findings.specs.Records.{of_left, all_left, of_object, all_unsynced, AreLeft}
@@ -26,6 +27,9 @@ use Rattle.findings.specs.Watched.{numbers_below}
 use Rattle.findings.proofs.Groups.{the_finding, given_only, given_there}
 use Rattle.findings.proofs.Lasting.{below_there}
 use Rattle.findings.proofs.Members.{Has, has_left, has_right, has_flat_map, has_contains}
+
+false_true : false ≡ true → ⊥
+false_true e = cc
 
 -- The first of the remaining requests.
 row_first : (rows rest : List Row) (k : ℕ) (row : Row) → drop k rows ≡ row ∷ rest → (slice_get rows k ≡ Some row) × (drop (suc k) rows ≡ rest)
@@ -35,13 +39,13 @@ row_first (x ∷ rows) rest zero row e = (let h : x ≡ row = cc in ap Some h, l
 row_first (x ∷ rows) rest (suc k) row e = row_first rows rest k row e
 
 -- What holds of each incomplete request holds of all findings about the rest of a table.
-rest_open : (P : Finding → Type 0) (n k : ℕ) (rows rest : List Row) → ((r : ℕ) → option_map_or is_open (slice_get rows r) false ≡ true → P (the_finding n (Left Unfinished) r)) → drop k rows ≡ rest → All P (flat_map (of_left n) (enumerate_from k rest))
+rest_open : (P : Finding → Type 0) (n k : ℕ) (rows rest : List Row) → ((r : ℕ) → option_map_or is_open (slice_get rows r) false ≡ true → P (the_finding n (Left (Unfinished Fault)) r)) → drop k rows ≡ rest → All P (flat_map (of_left n) (enumerate_from k rest))
 rest_open P n k rows [] h e = All-nil P
 rest_open P n k rows (row ∷ rest) h e =
     let first = row_first rows rest k row e in
     let up : suc k ≡ k + 1 = omega arith in
     All-append P (of_left n (k, row)) (flat_map (of_left n) (enumerate_from (k + 1) rest))
-    (given_only P (is_open row) (the_finding n (Left Unfinished) k) (λ t. h k (ap (λ (o : Option Row). option_map_or is_open o false) first.0 ∙ t)))
+    (given_only P (is_open row) (the_finding n (Left (Unfinished Fault)) k) (λ t. h k (ap (λ (o : Option Row). option_map_or is_open o false) first.0 ∙ t)))
     (rest_open P n (k + 1) rows rest h (ap (λ (j : ℕ). drop j rows) (sym up) ∙ first.1))
 
 number_there : (k r : ℕ) (rest : List Row) (row : Row) → slice_get rest r ≡ Some row → Has (enumerate_from k rest) (k + r, row)
@@ -54,21 +58,21 @@ number_there k (suc r) (x ∷ rest) row e =
     let same : k + 1 + r ≡ k + suc r = omega arith in
     inr (subst (λ (j : ℕ). Has (enumerate_from (k + 1) rest) (j, row)) same (number_there (k + 1) r rest row e))
 
-open_there : (n r : ℕ) (rows : List Row) → option_map_or is_open (slice_get rows r) false ≡ true → Has (all_left n rows) (the_finding n (Left Unfinished) r)
+open_there : (n r : ℕ) (rows : List Row) → option_map_or is_open (slice_get rows r) false ≡ true → Has (all_left n rows) (the_finding n (Left (Unfinished Fault)) r)
 open_there n r rows h = by (slice_get rows r) refl h
   where
-    by : (o : Option Row) → slice_get rows r ≡ o → option_map_or is_open o false ≡ true → Has (all_left n rows) (the_finding n (Left Unfinished) r)
+    by : (o : Option Row) → slice_get rows r ≡ o → option_map_or is_open o false ≡ true → Has (all_left n rows) (the_finding n (Left (Unfinished Fault)) r)
     by None e t = cc
     by (Some row) e t =
         let same : zero + r ≡ r = omega arith in
         let there : Has (enumerate_from zero rows) (r, row) = subst (λ (j : ℕ). Has (enumerate_from zero rows) (j, row)) same (number_there zero r rows row e) in
-        has_flat_map (of_left n) (enumerate_from zero rows) (r, row) (the_finding n (Left Unfinished) r) there (given_there (is_open row) (the_finding n (Left Unfinished) r) t)
+        has_flat_map (of_left n) (enumerate_from zero rows) (r, row) (the_finding n (Left (Unfinished Fault)) r) there (given_there (is_open row) (the_finding n (Left (Unfinished Fault)) r) t)
 
 -- ---- files
 
 object_left : (s : Setup) (es : List Event) (o : ℕ) → o < length s.objects → All (IsLeft s es) (of_object (length es) (machine_at s es (length es)).world o)
 object_left s es o l =
-    given_only (IsLeft s es) (has_unsynced (machine_at s es (length es)).world o) (the_finding (length es) (Left NotDurable) o)
+    given_only (IsLeft s es) (has_unsynced (machine_at s es (length es)).world o) (the_finding (length es) (Left (NotDurable Note)) o)
     (λ t. (refl, and_from (nat_lt o (length s.objects)) _ (lt-ltb o (length s.objects) l) t))
 
 objects_left : (s : Setup) (es : List Event) (k : ℕ) → k ≤ length s.objects → All (IsLeft s es) (flat_map (of_object (length es) (machine_at s es (length es)).world) (numbers_below k))
@@ -78,10 +82,10 @@ objects_left s es (suc k) l =
     (All-append (IsLeft s es) (flat_map (of_object (length es) (machine_at s es (length es)).world) (numbers_below k)) (of_object (length es) (machine_at s es (length es)).world k ++ []) (objects_left s es k (omega arith))
     (All-append (IsLeft s es) (of_object (length es) (machine_at s es (length es)).world k) [] (object_left s es k (omega arith)) (All-nil (IsLeft s es))))
 
-object_there : (s : Setup) (n o : ℕ) (w : WorldState) → (nat_lt o (length s.objects) && has_unsynced w o) ≡ true → Has (all_unsynced s n w) (the_finding n (Left NotDurable) o)
+object_there : (s : Setup) (n o : ℕ) (w : WorldState) → (nat_lt o (length s.objects) && has_unsynced w o) ≡ true → Has (all_unsynced s n w) (the_finding n (Left (NotDurable Note)) o)
 object_there s n o w h =
     let parts = and_parts (nat_lt o (length s.objects)) (has_unsynced w o) h in
-    has_flat_map (of_object n w) (numbers_below (length s.objects)) o (the_finding n (Left NotDurable) o) (below_there o (length s.objects) (ltb-true o (length s.objects) parts.0)) (given_there (has_unsynced w o) (the_finding n (Left NotDurable) o) parts.1)
+    has_flat_map (of_object n w) (numbers_below (length s.objects)) o (the_finding n (Left (NotDurable Note)) o) (below_there o (length s.objects) (ltb-true o (length s.objects) parts.0)) (given_there (has_unsynced w o) (the_finding n (Left (NotDurable Note)) o) parts.1)
 
 -- ---- requests and files
 
@@ -89,8 +93,9 @@ left_there : (s : Setup) (es : List Event) (i : ℕ) (kind : Kind) (n : ℕ) →
 left_there s es i (Left kind) n h = subst (λ (k : ℕ). Has (all_left (length es) (machine_at s es (length es)).table ++ all_unsynced s (length es) (machine_at s es (length es)).world) (the_finding k (Left kind) n)) (sym h.0) (by kind h.1)
   where
     by : (kind : LeftKind) → is_left s kind (machine_at s es (length es)) n ≡ true → Has (all_left (length es) (machine_at s es (length es)).table ++ all_unsynced s (length es) (machine_at s es (length es)).world) (the_finding (length es) (Left kind) n)
-    by Unfinished t = has_left (all_left (length es) (machine_at s es (length es)).table) _ _ (open_there (length es) n (machine_at s es (length es)).table t)
-    by NotDurable t = has_right (all_left (length es) (machine_at s es (length es)).table) _ _ (object_there s (length es) n (machine_at s es (length es)).world t)
+    by (Unfinished Fault) t = has_left (all_left (length es) (machine_at s es (length es)).table) _ _ (open_there (length es) n (machine_at s es (length es)).table t)
+    by (NotDurable Note) t = has_right (all_left (length es) (machine_at s es (length es)).table) _ _ (object_there s (length es) n (machine_at s es (length es)).world t)
+    by _ t = absurd (false_true t)
 left_there s es i _ n h = absurd h
 
 pub all_at_end : (s : Setup) (es : List Event) (m : Machine) → m ≡ machine_at s es (length es) → AreLeft s es (all_left (length es) m.table ++ all_unsynced s (length es) m.world)

@@ -14,4 +14,8 @@ pub mod Lasting
 pub mod Left
 pub mod Alike
 pub mod Durability
+pub mod Equals
+pub mod Marks
+pub mod Suspecting
+pub mod Judging
 pub mod Followed

@@ -21,6 +21,7 @@ use Rattle.finding_kinds.specs.declared.kind.LastingKind.{LastingKind}
 use Rattle.finding_kinds.specs.declared.kind.LastingKind.TheVariants.{Waits, LostWakeUp, NotTaken, NotReaped}
 use Rattle.finding_kinds.specs.declared.kind.LeftKind.{LeftKind}
 use Rattle.finding_kinds.specs.declared.kind.LeftKind.TheVariants.{Unfinished, NotDurable}
+use Rattle.finding_kinds.specs.declared.kind.Verdict.TheVariants.{Fault, Note}
 use Rattle.finding_kinds.specs.declared.kind.StepKind.{StepKind}
 use Rattle.finding_kinds.specs.declared.kind.StepKind.TheVariants.{Busy, TakenShort, NoSuchSlot, SlotInUse, ClosedEarly, ClosedWhileHeld, RefusedFlags}
 use Rattle.findings.specs.Endings.{is_error, is_less}
@@ -110,9 +111,10 @@ waits s m t = nat_lt t (length s.threads) && option_map_or (λ (x : ThreadState)
 --   Waits: the thread waits in its enter.
 abbrev pub condition_holds : Setup → LastingKind → Machine → ℕ → Bool
 condition_holds s LostWakeUp m n = (n == 0) && (needs_wake_up m && has_entries m)
-condition_holds s NotTaken m n = (n == 0) && (not (needs_wake_up m) && has_entries m)
+condition_holds s (NotTaken Fault) m n = (n == 0) && (not (needs_wake_up m) && has_entries m)
 condition_holds s NotReaped m n = (n == 0) && (overflows m || has_completions m)
-condition_holds s Waits m t = waits s m t
+condition_holds s (Waits Fault) m t = waits s m t
+condition_holds s kind m n = false
 
 -- ---- the end
 
@@ -128,8 +130,9 @@ has_unsynced w o = option_map_or is_unsynced (file_of w o) false
 --   Unfinished: the request is incomplete.
 --   NotDurable: the object is a file with written bytes that are not durable.
 abbrev pub is_left : Setup → LeftKind → Machine → ℕ → Bool
-is_left s Unfinished m r = option_map_or is_open (slice_get m.table r) false
-is_left s NotDurable m o = nat_lt o (length s.objects) && has_unsynced m.world o
+is_left s (Unfinished Fault) m r = option_map_or is_open (slice_get m.table r) false
+is_left s (NotDurable Note) m o = nat_lt o (length s.objects) && has_unsynced m.world o
+is_left s kind m n = false
 
 -- A condition has held at each moment from `since` to `now`, and not at the moment before `since`.
 pub record Began (holds : ℕ → Bool) (now since : ℕ) : Type 0 where

@@ -29,6 +29,7 @@ use Rattle.machine.specs.Whole.{view}
 use Rattle.machine.specs.declared.whole.Machine.{Machine}
 use Rattle.findings.specs.declared.effect.Effect.{Effect}
 use Rattle.findings.specs.declared.effect.Effect.TheVariants.{Nothing, Stored, Finished}
+use Rattle.finding_kinds.specs.declared.kind.Verdict.TheVariants.{Fault, Note}
 use Rattle.finding_kinds.specs.declared.kind.ConflictKind.{ConflictKind}
 use Rattle.finding_kinds.specs.declared.kind.ConflictKind.TheVariants.{BufferInUse, Unordered, SharedPosition, FsyncEarly}
 use Rattle.findings.specs.Conditions.{done_by}
@@ -171,12 +172,13 @@ is_synced_early s r done q row = (done.entry.opcode == 3) && (is_good done.phase
 --     the two is a WRITE.
 --   SharedPosition: r moved bytes at the position at which q begins, and q asks for at least one.
 --   FsyncEarly: r is an FSYNC of q's file without error, and q is an earlier WRITE of at least one
---     byte.
+--     byte. It is a note until the end of the run decides.
 abbrev pub would_conflict : ConflictKind → Setup → Machine → ℕ → Row → ℕ → Row → Bool
 would_conflict BufferInUse s m r done q row = (done.entry.opcode == 22) && is_in_buffer done.entry.addr (moved done.phase) row
 would_conflict Unordered s m r done q row = is_one_write done.entry row.entry && (is_over s m (moved done.phase) done.entry row && is_same_file s done.entry row.entry)
 would_conflict SharedPosition s m r done q row = (nat_lt 0 (moved done.phase) && nat_lt 0 row.entry.len) && is_by_position s done.entry row.entry
-would_conflict FsyncEarly s m r done q row = is_synced_early s r done q row
+would_conflict (FsyncEarly Note) s m r done q row = is_synced_early s r done q row
+would_conflict (FsyncEarly Fault) s m r done q row = false
 
 -- Whether a store to memory conflicts with an incomplete READ or WRITE:
 --   BufferInUse: the bytes are in its buffer.

@@ -14,6 +14,7 @@ use Rattle.timeouts_cancel.specs.Cascades.{is_bad, is_negative, is_transfer}
 use Rattle.finding_kinds.specs.Chains.{distance_to_next}
 use Rattle.finding_kinds.specs.declared.kind.EndedKind.{EndedKind}
 use Rattle.finding_kinds.specs.declared.kind.EndedKind.TheVariants.{Failed, Short, Severed, Canceled, TimedOut, Expired, NotFound, TooLate, WentOn}
+use Rattle.finding_kinds.specs.declared.kind.Verdict.TheVariants.{Fault, Note}
 use Rattle.finding_kinds.specs.declared.kind.QueuedKind.{QueuedKind}
 use Rattle.finding_kinds.specs.declared.kind.QueuedKind.TheVariants.{CutOff, NoEffect, SameUserData}
 
@@ -83,10 +84,12 @@ leaves_chain before row res = has_flag row.entry.flags 8 && (is_bad row res && (
 --     linked timeout.
 abbrev pub is_of : EndedKind → Option Row → Row → Option Row → ℤ → Bool
 is_of Failed before row next res = is_negative res && not (is_reported_apart row res)
-is_of Short before row next res = is_transfer row.entry.opcode && is_less res row.entry.len
+is_of (Short Fault) before row next res = is_transfer row.entry.opcode && is_less res row.entry.len
+is_of (Short Note) before row next res = false
 is_of Severed before row next res = is_soft_linked row && (is_bad row res && (was_issued before || not (is_error 125 res)))
 is_of Canceled before row next res = is_error 125 res
-is_of TimedOut before row next res = is_guard row && is_error 62 res
+is_of (TimedOut Fault) before row next res = is_guard row && is_error 62 res
+is_of (TimedOut Note) before row next res = false
 is_of Expired before row next res = (row.entry.opcode == 11) && is_error 62 res
 is_of NotFound before row next res = is_cancel row.entry.opcode && is_error 2 res
 is_of TooLate before row next res = is_cancel row.entry.opcode && is_error 114 res

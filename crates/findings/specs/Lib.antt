@@ -4,6 +4,8 @@ pub mod Conditions
 pub mod Conflicts
 pub mod Canceling
 pub mod Watched
+pub mod Durability
 pub mod Findings
 pub mod Records
+pub mod Suspects
 pub mod Searching

@@ -21,6 +21,7 @@ use Rattle.finding_kinds.specs.declared.kind.Kind.{Kind}
 use Rattle.finding_kinds.specs.declared.kind.Kind.TheVariants as group
 use Rattle.finding_kinds.specs.declared.kind.EndedKind.{EndedKind}
 use Rattle.finding_kinds.specs.declared.kind.LeftKind.TheVariants.{Unfinished, NotDurable}
+use Rattle.finding_kinds.specs.declared.kind.Verdict.TheVariants.{Fault, Note}
 use Rattle.finding_kinds.specs.declared.kind.ConflictKind.{ConflictKind}
 use Rattle.finding_kinds.specs.declared.kind.StepKind.{StepKind}
 use Rattle.finding_kinds.specs.declared.kind.QueuedKind.{QueuedKind}
@@ -39,7 +40,7 @@ use Rattle.findings.specs.Canceling.{cancel_before, is_of_cancel}
 use Rattle.findings.specs.Conditions.{overflows, done_by, is_of_step, has_unsynced}
 use Rattle.findings.specs.Conflicts.{done_at, is_candidate, conflicts}
 use Rattle.findings.specs.Uses.{changes_at}
-use Rattle.findings.specs.Findings.{occurs_at, Lasts, IsLeft, IsFinding}
+use Rattle.findings.specs.Findings.{occurs_at, Lasts, IsLeft, Retries, IsFinding, judged_kind}
 use Rattle.findings.specs.Watched.{numbers_below}
 
 -- ---- one record
@@ -175,6 +176,11 @@ pub record FoundBefore (s : Setup) (es : List Event) (n : ℕ) (fs : List Findin
   pub only : All (λ f. (f.moment < n) × (occurs_at s es f.moment f.kind f.subject ≡ true)) fs
   pub whole : (f : Finding) → f.moment < n → occurs_at s es f.moment f.kind f.subject ≡ true → Contains fs f
 
+-- Exactly the retried FSYNCs that the first n events complete.
+pub record RetriedBefore (s : Setup) (es : List Event) (n : ℕ) (fs : List Finding) : Type 0 where
+  pub only : All (λ f. (f.moment < n) × Retries s es f) fs
+  pub whole : (f : Finding) → f.moment < n → Retries s es f → Contains fs f
+
 -- Exactly the conditions that last to the end.
 pub record IsLasting (s : Setup) (es : List Event) (fs : List Finding) : Type 0 where
   pub only : All (Lasts s es) fs
@@ -182,7 +188,7 @@ pub record IsLasting (s : Setup) (es : List Event) (fs : List Finding) : Type 0 
 
 -- A finding if the numbered request is incomplete at the end.
 abbrev pub of_left : ℕ → ℕ × Row → List Finding
-of_left n p = given (is_open p.1) (record { moment = n; kind = group.Left Unfinished; subject = p.0 })
+of_left n p = given (is_open p.1) (record { moment = n; kind = group.Left (Unfinished Fault); subject = p.0 })
 
 -- The findings about all incomplete requests.
 abbrev pub all_left : ℕ → List Row → List Finding
@@ -190,7 +196,7 @@ all_left n rows = flat_map (of_left n) (enumerate_from 0 rows)
 
 -- A finding if the object is a file that isn't durable at the end.
 abbrev pub of_object : ℕ → WorldState → ℕ → List Finding
-of_object n w o = given (has_unsynced w o) (record { moment = n; kind = group.Left NotDurable; subject = o })
+of_object n w o = given (has_unsynced w o) (record { moment = n; kind = group.Left (NotDurable Note); subject = o })
 
 -- The findings about all files that aren't durable.
 abbrev pub all_unsynced : Setup → ℕ → WorldState → List Finding
@@ -200,6 +206,10 @@ all_unsynced s n w = flat_map (of_object n w) (numbers_below (length s.objects))
 pub record AreLeft (s : Setup) (es : List Event) (fs : List Finding) : Type 0 where
   pub only : All (IsLeft s es) fs
   pub whole : (f : Finding) → IsLeft s es f → Contains fs f
+
+-- A finding with its verdict, once it is known which WRITEs are lost.
+abbrev pub judged : (ℕ → Bool) → Finding → Finding
+judged lost f = record f { kind = judged_kind lost f.kind f.subject }
 
 -- Exactly the findings of a run, in any order.
 pub record IsAll (s : Setup) (es : List Event) (fs : List Finding) : Type 0 where

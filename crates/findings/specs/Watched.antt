@@ -6,6 +6,7 @@ use Rattle.finding_kinds.specs.declared.finding.Finding.{Finding}
 use Rattle.finding_kinds.specs.declared.kind.Kind.TheVariants.{Lasting}
 use Rattle.finding_kinds.specs.declared.kind.LastingKind.{LastingKind}
 use Rattle.finding_kinds.specs.declared.kind.LastingKind.TheVariants.{Waits, LostWakeUp, NotTaken, NotReaped}
+use Rattle.finding_kinds.specs.declared.kind.Verdict.TheVariants.{Fault}
 use Rattle.findings.specs.declared.watching.Watch.{Watch}
 use Rattle.findings.specs.Conditions.{condition_holds}
 
@@ -30,11 +31,11 @@ numbers_below (suc n) = numbers_below n ++ n ∷ []
 
 -- The conditions of the rings, whose subject is 0.
 abbrev pub of_rings : List Watch
-of_rings = fresh LostWakeUp 0 ∷ fresh NotTaken 0 ∷ fresh NotReaped 0 ∷ []
+of_rings = fresh LostWakeUp 0 ∷ fresh (NotTaken Fault) 0 ∷ fresh NotReaped 0 ∷ []
 
 -- The conditions of a setup: of its rings and of each thread.
 abbrev pub watched : Setup → List Watch
-watched s = of_rings ++ map (fresh Waits) (numbers_below (length s.threads))
+watched s = of_rings ++ map (fresh (Waits Fault)) (numbers_below (length s.threads))
 
 -- A finding if the condition holds.
 abbrev pub of_watch : LastingKind → ℕ → Option ℕ → List Finding

@@ -9,7 +9,7 @@ ghost use Rattle.findings.specs.Searching.{facts_before};
 use crate::canceling::{Cancel, cancel_before};
 use crate::uses::{Sought, changes_at, first_pushed, is_held, is_named, is_pushed_last};
 use entries::{EBUSY, EINVAL, IORING_SQ_CQ_OVERFLOW, IORING_SQ_NEED_WAKEUP};
-use finding_kinds::{LastingKind, StepKind, descriptor_number, instruction_at};
+use finding_kinds::{LastingKind, StepKind, Verdict, descriptor_number, instruction_at};
 use machine::{Event, Instruction, Setup, State};
 use places::{Place, Stage, Value};
 
@@ -214,8 +214,11 @@ pub(crate) fn condition_holds(setup: &Setup, kind: LastingKind, state: &State, s
 {
     match kind {
         LastingKind::LostWakeUp => subject == 0 && (needs_wake_up(state) && has_entries(state)),
-        LastingKind::NotTaken => subject == 0 && (!needs_wake_up(state) && has_entries(state)),
+        LastingKind::NotTaken(Verdict::Fault) => {
+            subject == 0 && (!needs_wake_up(state) && has_entries(state))
+        }
         LastingKind::NotReaped => subject == 0 && (overflows(state) || has_completions(state)),
-        LastingKind::Waits => waits(setup, state, subject),
+        LastingKind::Waits(Verdict::Fault) => waits(setup, state, subject),
+        _ => false,
     }
 }

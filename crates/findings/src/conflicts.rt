@@ -10,7 +10,7 @@ use crate::files::{is_same_descriptor, is_same_file};
 use crate::leftover::row_at;
 use crate::transition::Transition;
 use entries::{IOSQE_IO_DRAIN, Phase, Row, Sqe};
-use finding_kinds::{ConflictKind, MOST_ROWS, descriptor_number};
+use finding_kinds::{ConflictKind, MOST_ROWS, Verdict, descriptor_number};
 use links_drains::{is_guard, is_issued, is_unfinished};
 use machine::{Setup, State};
 use opcodes::Op;
@@ -28,8 +28,8 @@ fn meet(first: u64, count: u64, other: u64, others: u64) -> bool
     start < end
 }
 
-// Returns how many bytes a request moved; 0 if it is incomplete or failed.
-fn moved(phase: Phase) -> u64
+/// Returns how many bytes a request moved; 0 if it is incomplete or failed.
+pub(crate) fn moved(phase: Phase) -> u64
     ensures { result ≡ moved phase }
 {
     match phase {
@@ -93,8 +93,8 @@ fn position_at(state: &State, entry: &Sqe) -> u64
     }
 }
 
-// Returns the file offset at which a transfer of `count` bytes began, by the state after it.
-fn begins(state: &State, count: u64, entry: &Sqe) -> u64
+/// Returns the file offset at which a transfer of `count` bytes began, by the state after it.
+pub(crate) fn begins(state: &State, count: u64, entry: &Sqe) -> u64
     ensures { result ≡ begins state.now count entry.now }
 {
     if is_at_position(entry) {
@@ -245,7 +245,10 @@ fn would_conflict(
         ConflictKind::SharedPosition => {
             (0 < count && 0 < row.entry.len) && is_by_position(at.setup, &done.entry, &row.entry)
         }
-        ConflictKind::FsyncEarly => is_synced_early(at.setup, number, done, other, row),
+        ConflictKind::FsyncEarly(Verdict::Note) => {
+            is_synced_early(at.setup, number, done, other, row)
+        }
+        ConflictKind::FsyncEarly(Verdict::Fault) => false,
     }
 }
 

@@ -9,7 +9,7 @@ use crate::twins::has_twin;
 use entries::{
     EALREADY, ECANCELED, ENOENT, ETIME, IOSQE_IO_HARDLINK, IOSQE_IO_LINK, Phase, Row, Sqe,
 };
-use finding_kinds::{EndedKind, QueuedKind, distance_to_next};
+use finding_kinds::{EndedKind, QueuedKind, Verdict, distance_to_next};
 use links_drains::{is_guard, is_soft_linked};
 use machine::State;
 use opcodes::{Op, is_cancel, is_timer};
@@ -169,14 +169,15 @@ fn is_of(
 {
     match kind {
         EndedKind::Failed => res < 0 && !is_reported_apart(row, res),
-        EndedKind::Short => is_transfer(row) && is_less(res, row.entry.len),
+        EndedKind::Short(Verdict::Fault) => is_transfer(row) && is_less(res, row.entry.len),
         EndedKind::Severed => severs(before, row, res),
         EndedKind::Canceled => is_canceled(res),
-        EndedKind::TimedOut => is_guard(row) && is_out_of_time(res),
+        EndedKind::TimedOut(Verdict::Fault) => is_guard(row) && is_out_of_time(res),
         EndedKind::Expired => row.entry.opcode == Op::Timeout as u8 && is_out_of_time(res),
         EndedKind::NotFound => is_cancel(row.entry.opcode) && is_not_there(res),
         EndedKind::TooLate => is_cancel(row.entry.opcode) && is_under_way(res),
         EndedKind::WentOn => leaves_chain(before, row, res) && has_next(row, state, number),
+        EndedKind::Short(Verdict::Note) | EndedKind::TimedOut(Verdict::Note) => false,
     }
 }
 

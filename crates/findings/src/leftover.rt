@@ -5,7 +5,7 @@ ghost use Rattle.findings.specs.Records.{of_left, all_left};
 
 use crate::record::add_if;
 use entries::Row;
-use finding_kinds::{Finding, Kind, LeftKind, MOST_ROWS};
+use finding_kinds::{Finding, Kind, LeftKind, MOST_ROWS, Verdict};
 use links_drains::is_unfinished;
 use machine::State;
 use std::alloc::AllocError;
@@ -26,7 +26,7 @@ fn add_left(found: &mut Vec<Finding>, moment: u32, number: u32, row: &Row) -> Re
 {
     let finding = Finding {
         moment,
-        kind: Kind::Left(LeftKind::Unfinished),
+        kind: Kind::Left(LeftKind::Unfinished(Verdict::Fault)),
         subject: number,
     };
     add_if(found, is_unfinished(row), finding)

@@ -15,10 +15,13 @@ mod noting;
 mod ordering;
 mod record;
 mod searching;
+mod suspects;
 mod transition;
 mod twins;
 mod unsynced;
 mod uses;
+mod verdicts;
 mod watching;
+mod writes;
 
 pub use searching::{Found, Search, search_run};

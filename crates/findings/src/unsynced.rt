@@ -7,7 +7,7 @@ ghost use Rattle.findings.specs.Records.{of_object, all_unsynced};
 ghost use Rattle.finding_kinds.specs.Values.{byte_in, differ};
 
 use crate::record::add_if;
-use finding_kinds::{Finding, Kind, LeftKind, differs_at, number_at};
+use finding_kinds::{Finding, Kind, LeftKind, Verdict, differs_at, number_at};
 use machine::{Setup, State};
 use places::Place;
 use std::alloc::AllocError;
@@ -56,7 +56,7 @@ fn add_unsynced(
 {
     let finding = Finding {
         moment,
-        kind: Kind::Left(LeftKind::NotDurable),
+        kind: Kind::Left(LeftKind::NotDurable(Verdict::Note)),
         subject: object,
     };
     add_if(found, has_unsynced(state, object), finding)

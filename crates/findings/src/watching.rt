@@ -4,7 +4,7 @@ ghost use Rattle.std.specs.List.{flat_map};
 ghost use Rattle.findings.specs.Watched.{continued, advanced, of_rings, watched, fresh, of_lasting};
 
 use crate::conditions::condition_holds;
-use finding_kinds::{Finding, Kind, LastingKind};
+use finding_kinds::{Finding, Kind, LastingKind, Verdict};
 use machine::{Setup, State};
 use std::alloc::{AllocError, Global};
 
@@ -68,7 +68,7 @@ fn watches_of_rings(alloc: Global) -> Result<Vec<Watch>, AllocError>
 {
     let mut list = Vec::new(alloc);
     list.push(fresh(LastingKind::LostWakeUp, 0))?;
-    list.push(fresh(LastingKind::NotTaken, 0))?;
+    list.push(fresh(LastingKind::NotTaken(Verdict::Fault), 0))?;
     list.push(fresh(LastingKind::NotReaped, 0))?;
     Ok(list)
 }
@@ -82,7 +82,7 @@ pub(crate) fn watches_of(alloc: Global, setup: &Setup) -> Result<Vec<Watch>, All
     };
     let mut list = watches_of_rings(alloc)?;
     for thread in 0..threads {
-        list.push(fresh(LastingKind::Waits, thread))?;
+        list.push(fresh(LastingKind::Waits(Verdict::Fault), thread))?;
     }
     Ok(list)
 }

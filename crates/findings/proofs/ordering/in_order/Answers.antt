@@ -1,9 +1,9 @@
-use Rattle.std.proofs.Common.{rules}
 use Rattle.std.proofs.lemmas.List.Filters.{dedup_is}
 use Rattle.std.proofs.lemmas.List.Kept.{Contains-dedup, Contains-from_dedup, IsStrictlySortedBy-dedup}
 use Rattle.std.proofs.lemmas.List.Sorted.{Contains-permutation, IsPermutation-sym}
 use Rattle.finding_kinds.specs.contracts.finding.FindingOrd.TheImpl.Laws as ordered
 use Rattle.finding_kinds.specs.contracts.finding.FindingEq.TheImpl.Laws as compared
+use Rattle.findings.proofs.Equals.{finding_is}
 use Rattle.findings.proofs.ordering.in_order.Goals as goal
 
 pub returns-clause-rises : goal.returns-clause-rises
@@ -14,6 +14,6 @@ returns-clause-same c =
     let is = dedup_is _ _ _ c.dedup.ensures.filtered in
     let moved = c.sort_unstable.ensures.permutation in
     record {
-      there = λ f h. rw is (Contains-dedup compared.laws-law (λ a b e. search rules) _ f (Contains-permutation _ _ f moved h));
+      there = λ f h. rw is (Contains-dedup compared.laws-law finding_is _ f (Contains-permutation _ _ f moved h));
       back = λ f h. Contains-permutation _ _ f (IsPermutation-sym _ _ moved) (Contains-from_dedup _ _ f (rw is at h));
     }
