@@ -226,11 +226,15 @@ all_found s es fs ls us rs gs h lasting left retried e = subst (IsAll s es) (sym
     before_left f c = Contains-append_left ((map (judged (is_lost s es)) fs ++ ls) ++ us) rs f (Contains-append_left (map (judged (is_lost s es)) fs ++ ls) us f c)
 
 -- At the end of a run, with the findings of what lasts or is left.
-pub seen_all : (s : Setup) (es : List Event) (m : Machine) (fs js gs : List Finding) (numbers : List ℕ) (ws xs : List Watch) (writes : List Written) (sets : List (List ℕ)) (retried : List Finding) → HasSearched s es (length es) fs numbers ws writes sets retried → IsAt s es (length es) m → xs ≡ ws
-    → Judges s m writes fs js → gs ≡ ((js ++ flat_map of_lasting xs) ++ (all_left (length es) m.table ++ all_unsynced s (length es) m.world)) ++ retried → IsAll s es gs
-seen_all s es m fs js gs numbers ws xs writes sets retried h at w j e =
+pub seen_all : (s : Setup) (es : List Event) (m : Machine) (fs js ks gs : List Finding) (numbers : List ℕ) (ws xs : List Watch) (writes vs : List Written) (sets : List (List ℕ)) (retried rs : List Finding)
+    → HasSearched s es (length es) fs numbers ws writes sets retried → IsAt s es (length es) m → vs ≡ writes → Judges s m vs fs js → xs ≡ ws
+    → ks ≡ (js ++ flat_map of_lasting xs) ++ (all_left (length es) m.table ++ all_unsynced s (length es) m.world) → rs ≡ retried → gs ≡ ks ++ rs → IsAll s es gs
+seen_all s es m fs js ks gs numbers ws xs writes vs sets retried rs h at v j w e r g =
     all_found s es fs _ _ retried gs h.found (lasting_reported s es xs (w ∙ h.watching)) (all_at_end s es m at.here) h.files.retried
-    (e ∙ ap (λ (ys : List Finding). ((ys ++ flat_map of_lasting xs) ++ (all_left (length es) m.table ++ all_unsynced s (length es) m.world)) ++ retried) (judged_at_end s es m writes sets retried fs js at.here h.files j))
+    (g ∙ ap (λ (ys : List Finding). ks ++ ys) r ∙ ap (λ (ys : List Finding). ys ++ retried) (e ∙ ap (λ (ys : List Finding). (ys ++ flat_map of_lasting xs) ++ (all_left (length es) m.table ++ all_unsynced s (length es) m.world)) judged_now))
+  where
+    judged_now : js ≡ map (judged (is_lost s es)) fs
+    judged_now = judged_at_end s es m writes sets retried fs js at.here h.files (subst (λ (us : List Written). Judges s m us fs js) v j)
 
 -- All findings, sorted, are the report.
 pub report_of : (s : Setup) (es : List Event) (fs gs : List Finding) → IsAll s es fs → SameFindings fs gs → Rises gs → IsReportOf s es gs

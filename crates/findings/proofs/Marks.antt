@@ -1,5 +1,5 @@
 -- Sets of bytes, one for each object, that a search marks.
-use Rattle.std.proofs.Common.{◌≡◌, inl, inr, ℕ, zero, suc, ◌+◌, ◌-◌, ◌*◌, ◌<◌, ◌≤◌, Bool, true, false, cond, not, List, [], ◌∷◌, ◌++◌, length, get_or, set, refl, sym, ap, ◌∙◌, subst, arith}
+use Rattle.std.proofs.Common.{◌≡◌, inl, inr, ℕ, zero, suc, ◌+◌, ◌-◌, ◌*◌, ◌<◌, ◌≤◌, Bool, true, false, cond, not, List, [], ◌∷◌, ◌++◌, length, length-append, get_or, set, refl, sym, ap, ◌∙◌, subst, arith}
 use Rattle.std.proofs.lemmas.Bool.{cases_eq, cases_lt, and_left, and_right, and_from, and_parts, lt-ltb, ltb-true, leb-true, le-leb, eq-eqb, ne_eqb}
 use Rattle.std.proofs.lemmas.Bool.Decides.{nat_tests}
 use Rattle.std.proofs.lemmas.Option.{slice_get_read, slice_get_past}
@@ -7,6 +7,7 @@ use Rattle.std.specs.Bool.{MatchBool}
 use Rattle.std.specs.Prelude.{Option, Some, None, slice_get, nat_lt, nat_le, ◌==◌, ◌&&◌, ◌||◌}
 use Rattle.std.specs.Option.{option_map_or}
 use Rattle.bit_sets.specs.Sets.{has, IsNext, NoneFrom}
+use Rattle.bit_sets.proofs.Bits.{has_past}
 use Rattle.places.specs.declared.place.Place.TheVariants.{FileByte, DurableByte}
 use Rattle.machine.specs.declared.whole.Machine.{Machine}
 use Rattle.machine.specs.Whole.{view}
@@ -18,6 +19,10 @@ use Rattle.findings.specs.Suspects.{is_marked, is_fsync_of, TellsMarked}
 
 false_true : false ≡ true → ⊥
 false_true e = cc
+
+or_false : (a b : Bool) → b ≡ false → a ≡ (a || b)
+or_false true b e = refl
+or_false false b e = sym e
 
 -- ---- one set of a list
 
@@ -51,6 +56,29 @@ marked_before [] o k words l = absurd (omega arith)
 marked_before (x ∷ sets) zero k words l = refl
 marked_before (x ∷ sets) (suc o) k words l = marked_before sets o k words (omega arith)
 
+-- One more set, for the next object, whose bytes pass a test.
+pub marked_more : (sets now : List (List ℕ)) (words start : List ℕ) (n : ℕ) (test : ℕ → ℕ → Bool) → length sets ≡ n → ((o k : ℕ) → o < n → is_marked sets o k ≡ test o k) → start ≡ []
+    → ((k : ℕ) → has words k ≡ (has start k || test n k)) → now ≡ sets ++ words ∷ [] → (length now ≡ n + 1) × ((o k : ℕ) → o < n + 1 → is_marked now o k ≡ test o k)
+marked_more sets now words start n test count h none added e = subst (λ (xs : List (List ℕ)). (length xs ≡ n + 1) × ((o k : ℕ) → o < n + 1 → is_marked xs o k ≡ test o k)) (sym e) (omega (arith, length-append sets (words ∷ []), count), each)
+  where
+    own : (k : ℕ) → has words k ≡ test n k
+    own k = added k ∙ ap (λ (b : Bool). b || test n k) (ap (λ (xs : List ℕ). has xs k) none ∙ has_past [] k (omega arith))
+
+    each : (o k : ℕ) → o < n + 1 → is_marked (sets ++ words ∷ []) o k ≡ test o k
+    each o k l = elim (cases_lt o n) [
+      | inl below ↦ marked_before sets o k words (omega (arith, below, count)) ∙ h o k below
+      | inr last ↦
+          let same : o ≡ length sets = omega (arith, l, last, count) in
+          let here : n ≡ o = omega (arith, l, last) in
+          ap (λ (p : ℕ). is_marked (sets ++ words ∷ []) p k) same ∙ marked_last sets k words ∙ own k ∙ ap (λ (p : ℕ). test p k) here
+    ]
+
+-- One more empty set.
+pub marked_empty : (sets now : List (List ℕ)) (words : List ℕ) (n : ℕ) → length sets ≡ n → ((o k : ℕ) → is_marked sets o k ≡ false) → words ≡ [] → now ≡ sets ++ words ∷ [] → (length now ≡ n + 1) × ((o k : ℕ) → is_marked now o k ≡ false)
+marked_empty sets now words n count h none e =
+    let more = marked_more sets now words [] n (λ (o k : ℕ). false) count (λ o k l. h o k) refl (λ k. ap (λ (xs : List ℕ). has xs k) none ∙ or_false (has [] k) false refl) e in
+    (more.0, λ o k. elim (cases_lt o (n + 1)) [ | inl l ↦ more.1 o k l | inr past ↦ marked_past now o k (let len : length now ≡ n + 1 = more.0 in omega (arith, len, past)) ])
+
 pub tells_in : (test : Bool) (sets : List (List ℕ)) (o : ℕ) (words : List ℕ) → slice_get sets o ≡ Some words → MatchBool test ((k : ℕ) × (has words k ≡ true)) ((k : ℕ) → has words k ≡ false) → TellsMarked test sets o
 tells_in true sets o words e h = (h.0, marked_in sets o h.0 words e ∙ h.1)
 tells_in false sets o words e h = λ k. marked_in sets o k words e ∙ h k
@@ -63,10 +91,6 @@ tells_none sets o e = λ k. ap (λ (x : Option (List ℕ)). option_map_or (λ (w
 and_not_false : (a b : Bool) → b ≡ false → a ≡ (a && not b)
 and_not_false true b e = sym (ap not e)
 and_not_false false b e = refl
-
-or_false : (a b : Bool) → b ≡ false → a ≡ (a || b)
-or_false true b e = refl
-or_false false b e = sym e
 
 moves_other : (w : Written) (o k : ℕ) → (o ≡ w.file → ⊥) → moves (Some w) o k ≡ false
 moves_other w o k d = and_left (w.file == o) (is_within w.first w.count k) (ne_eqb w.file o (λ e. d (sym e)))
