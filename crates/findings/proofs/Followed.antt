@@ -25,7 +25,7 @@ use Rattle.findings.specs.declared.watching.Watch.{Watch}
 use Rattle.findings.specs.Conditions.{overflows}
 use Rattle.findings.specs.Conflicts.{done_as, done_at}
 use Rattle.findings.specs.Durability.{completed_by}
-use Rattle.findings.specs.Findings.{occurs, occurs_at, Occurs, is_lost, judged_kind, Lasts, IsLeft, Retries, IsFinding, IsReportOf, Rises}
+use Rattle.findings.specs.Findings.{occurs, occurs_at, is_lost, judged_kind, Lasts, IsLeft, Retries, IsFinding, IsReportOf, Rises}
 use Rattle.findings.specs.Records.{of_change, of_overflow, of_step, of_cancel, of_event, of_effect, after_notes, Covers, Adds, FoundBefore, RetriedBefore, IsLasting, AreLeft, IsAll, judged, all_left, all_unsynced, SameFindings}
 use Rattle.findings.specs.Searching.{facts_before, NotesFacts, HasSearched}
 use Rattle.findings.specs.Suspects.{Follows, FollowsFiles, Judges}

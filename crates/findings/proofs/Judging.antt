@@ -1,9 +1,9 @@
 -- Verdicts by the end of a run.
-use Rattle.std.proofs.Common.{◌≡◌, inl, inr, ℕ, zero, suc, ◌+◌, ◌-◌, ◌<◌, ◌≤◌, Bool, true, false, List, [], ◌∷◌, ◌++◌, length, map, take, get_or, refl, sym, ap, ◌∙◌, subst, arith}
+use Rattle.std.proofs.Common.{◌≡◌, inl, inr, ℕ, zero, suc, ◌+◌, ◌-◌, ◌<◌, ◌≤◌, Bool, true, false, List, [], ◌∷◌, length, map, refl, sym, ap, ◌∙◌, arith}
 use Rattle.std.proofs.lemmas.Bool.{cases_lt, lt-ltb, le-ltb, or_from, or_left, or_right}
 use Rattle.std.proofs.lemmas.List.Folds.{list_any-append}
 use Rattle.std.proofs.lemmas.List.Elements.{All-head, All-tail}
-use Rattle.std.specs.Prelude.{Option, Some, None, slice_get, nat_lt, ◌==◌, ◌&&◌, ◌||◌}
+use Rattle.std.specs.Prelude.{Some, None, slice_get, nat_lt, ◌==◌, ◌&&◌, ◌||◌}
 use Rattle.std.specs.List.{All, list_any}
 use Rattle.bit_sets.specs.Sets.{has, IsNext, NoneFrom}
 use Rattle.scenario.specs.declared.event.Event.{Event}

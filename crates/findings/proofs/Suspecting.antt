@@ -1,13 +1,13 @@
 -- WRITEs and FSYNCs that a search has followed, after one more event.
-use Rattle.std.proofs.Common.{◌≡◌, ◌⊎◌, inl, inr, ℕ, ℤ, pos, negsuc, zero, suc, ◌+◌, ◌-◌, ◌<◌, ◌≤◌, Bool, true, false, cond, not, List, [], ◌∷◌, ◌++◌, length, refl, sym, ap, ◌∙◌, subst, arith, append-nil}
-use Rattle.std.proofs.lemmas.Bool.{cases_lt, cases_order, and_from, and_parts, eqb-true, eq-eqb, MatchBool-at_true, MatchBool-at_false}
+use Rattle.std.proofs.Common.{◌≡◌, ◌⊎◌, inl, inr, ℕ, ℤ, zero, suc, ◌+◌, ◌-◌, ◌<◌, Bool, true, false, cond, not, List, [], ◌∷◌, ◌++◌, length, refl, sym, ap, ◌∙◌, subst, arith, append-nil}
+use Rattle.std.proofs.lemmas.Bool.{cases_lt, and_from, and_parts, eqb-true, eq-eqb, MatchBool-at_true, MatchBool-at_false}
 use Rattle.std.proofs.lemmas.Grind.{flat_map-append}
 use Rattle.std.proofs.lemmas.List.Elements.{All-nil, All-cons, All-append, All-weaker, Contains-append_left, Contains-append_right}
 use Rattle.std.proofs.lemmas.Option.{none-some, same_Some, slice_get_within, slice_get_past}
 use Rattle.std.specs.Bool.{MatchBool}
 use Rattle.std.specs.Prelude.{Option, Some, None, option_map, slice_get, nat_lt, ◌==◌, ◌&&◌, ◌||◌}
 use Rattle.std.specs.Option.{option_map_or, option_and_then, option_to_list}
-use Rattle.std.specs.List.{All, Contains, flat_map}
+use Rattle.std.specs.List.{All, Contains}
 use Rattle.entries.specs.declared.row.Row.{Row}
 use Rattle.places.specs.declared.object.Contents.{Contents}
 use Rattle.places.specs.declared.object.Contents.TheVariants.{File}
@@ -24,15 +24,15 @@ use Rattle.finding_kinds.specs.declared.kind.Kind.TheVariants.{FsyncRetried}
 use Rattle.findings.specs.declared.writes.Fsync.{Fsync}
 use Rattle.findings.specs.declared.writes.Written.{Written}
 use Rattle.findings.specs.declared.effect.Effect.{Effect}
-use Rattle.findings.specs.declared.effect.Effect.TheVariants.{Nothing, Stored, Finished}
+use Rattle.findings.specs.declared.effect.Effect.TheVariants.{Nothing, Finished}
 use Rattle.findings.specs.Conflicts.{file_number, file_of_descriptor, file_numbered, file_of, begins, moved}
-use Rattle.findings.specs.Durability.{is_volatile_at, completed_by, completed_at, written_in, written_of, written_at, written_before, moves, has_ended_with, fsync_in, fsync_of, fsync_at, failed, good, IsSuspect, IsRetried}
+use Rattle.findings.specs.Durability.{is_volatile_at, completed_by, completed_at, written_of, written_at, written_before, moves, has_ended_with, fsync_of, fsync_at, failed, good, IsSuspect, IsRetried}
 use Rattle.findings.specs.Findings.{IsRetriedAt, Retries}
 use Rattle.findings.specs.Records.{given, RetriedBefore}
 use Rattle.findings.specs.Suspects.{is_marked, is_fsync_of, TellsMarked, AddsRetried, Follows, FollowsFiles}
 use Rattle.findings.specs.Watched.{numbers_below}
-use Rattle.findings.proofs.Groups.{the_finding, given_only, given_there}
-use Rattle.findings.proofs.Marks.{marked_past}
+use Rattle.findings.proofs.Groups.{the_finding}
+use Rattle.findings.proofs.Marks.{marked_past, marks_kept, marks_same, marks_both}
 use Rattle.findings.proofs.Members.{has_contains}
 
 false_true : false ≡ true → ⊥
@@ -260,6 +260,15 @@ retried_within s es f h = by f.moment f.kind f.subject h
 completed_is : (s : Setup) (es : List Event) (i : ℕ) (e : Event) (m : Machine) → slice_get es i ≡ Some e → m ≡ machine_at s es (i + 1) → completed_by e m ≡ completed_at s es i
 completed_is s es i e m there here =
     ap (completed_by e) here ∙ ap (λ (o : Option Event). option_map_or (λ (x : Event). completed_by x (machine_at s es (i + 1))) o Nothing) (sym there)
+
+-- An event that completes no READ, WRITE or FSYNC.
+pub follows_nothing : (s : Setup) (i : ℕ) (m : Machine) (effect : Effect) (ws : List Written) (sets : List (List ℕ)) (fs : List Finding) → effect ≡ Nothing → Follows s i m effect ws ws sets sets fs fs
+follows_nothing s i m effect ws sets fs e = subst (λ (d : Effect). Follows s i m d ws ws sets sets fs fs) (sym e) (record {
+  writes = sym (append-nil ws);
+  count = refl;
+  marks = λ o k l. marks_both (is_marked sets o k) (is_marked sets o k) (is_marked sets o k) false false (marks_kept (is_marked sets o k)) (marks_same (is_marked sets o k));
+  added = refl;
+})
 
 -- At the start of a run.
 pub follows_none : (s : Setup) (es : List Event) (ws : List Written) (sets : List (List ℕ)) (fs : List Finding) → ws ≡ [] → length sets ≡ length s.objects → ((o k : ℕ) → is_marked sets o k ≡ false) → fs ≡ [] → FollowsFiles s es zero ws sets fs

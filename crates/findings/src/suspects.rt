@@ -269,6 +269,8 @@ pub(crate) fn follow_files(
         files.old.writes.items files.new.writes.items files.old.suspects.items
         files.new.suspects.items files.old.retried.items files.new.retried.items) }
 {
-    let effect = completed_by(at.event, at.state);
-    follow_effect(at, &effect, files, retries)
+    match completed_by(at.event, at.state) {
+        Effect::Nothing => Ok(()),
+        effect => follow_effect(at, &effect, files, retries),
+    }
 }
