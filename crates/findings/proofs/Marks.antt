@@ -77,7 +77,7 @@ marked_more sets now words start n test count h none added e = subst (λ (xs : L
 pub marked_empty : (sets now : List (List ℕ)) (words : List ℕ) (n : ℕ) → length sets ≡ n → ((o k : ℕ) → is_marked sets o k ≡ false) → words ≡ [] → now ≡ sets ++ words ∷ [] → (length now ≡ n + 1) × ((o k : ℕ) → is_marked now o k ≡ false)
 marked_empty sets now words n count h none e =
     let more = marked_more sets now words [] n (λ (o k : ℕ). false) count (λ o k l. h o k) refl (λ k. ap (λ (xs : List ℕ). has xs k) none ∙ or_false (has [] k) false refl) e in
-    (more.0, λ o k. elim (cases_lt o (n + 1)) [ | inl l ↦ more.1 o k l | inr past ↦ marked_past now o k (let len : length now ≡ n + 1 = more.0 in omega (arith, len, past)) ])
+    (more.0, λ o k. elim (cases_lt o (n + 1)) [ inl l ↦ more.1 o k l | inr past ↦ marked_past now o k (let len : length now ≡ n + 1 = more.0 in omega (arith, len, past)) ])
 
 pub tells_in : (test : Bool) (sets : List (List ℕ)) (o : ℕ) (words : List ℕ) → slice_get sets o ≡ Some words → MatchBool test ((k : ℕ) × (has words k ≡ true)) ((k : ℕ) → has words k ≡ false) → TellsMarked test sets o
 tells_in true sets o words e h = (h.0, marked_in sets o h.0 words e ∙ h.1)

@@ -123,9 +123,9 @@ writes_below s es (suc n) =
 decide_more : (P Q : Type 0) (a w g : Bool) → MatchBool a P (P → ⊥) → (w ≡ false → P → Q) → (g ≡ true → Q) → (Q → ((w ≡ false) × P) ⊎ (g ≡ true)) → MatchBool ((a && not w) || g) Q (Q → ⊥)
 decide_more P Q true false g h stays comes splits = stays refl h
 decide_more P Q true true true h stays comes splits = comes refl
-decide_more P Q true true false h stays comes splits = λ q. elim (splits q) [ | inl p ↦ false_true (sym p.0) | inr e ↦ false_true e ]
+decide_more P Q true true false h stays comes splits = λ q. elim (splits q) [ inl p ↦ false_true (sym p.0) | inr e ↦ false_true e ]
 decide_more P Q false w true h stays comes splits = comes refl
-decide_more P Q false w false h stays comes splits = λ q. elim (splits q) [ | inl p ↦ h p.1 | inr e ↦ false_true e ]
+decide_more P Q false w false h stays comes splits = λ q. elim (splits q) [ inl p ↦ h p.1 | inr e ↦ false_true e ]
 
 fsync_is : (x : Option Fsync) (o : ℕ) → is_fsync_of x o ≡ true → (r : ℕ) × (x ≡ Some (record { row = r; file = o }))
 fsync_is None o e = absurd (false_true e)
@@ -164,14 +164,17 @@ module _ (s : Setup) (es : List Event) (i o k : ℕ) where
 
   suspect_splits : IsSuspect s es (i + 1) o k → ((moves (written_at s es i) o k ≡ false) × IsSuspect s es i o k) ⊎ (fails_now ≡ true)
   suspect_splits h = elim (cases_lt h.event i) [
-    | inl l ↦ inl (h.unwritten i l (omega arith), record {
+    | inl l ↦ inl (
+      h.unwritten i l (omega arith),
+      record {
         event = h.event;
         row = h.row;
         earlier = l;
         fails = h.fails;
         volatile = h.volatile;
         unwritten = λ j a b. h.unwritten j a (omega arith);
-      })
+      },
+    )
     | inr up ↦
         let within : h.event < i + 1 = h.earlier in
         let same : h.event ≡ i = omega arith in

@@ -6,10 +6,10 @@ ghost use Rattle.bit_sets.specs.Sets.{has};
 ghost use Rattle.findings.specs.Durability.{is_volatile_at, is_within, moves, completed_by};
 ghost use Rattle.findings.specs.Suspects.{is_marked, is_fsync_of, TellsMarked, AddsRetried, Follows};
 
-use crate::writes::{Fsync, Written, completed_by, fsync_of, mark_volatile, written_of};
 use crate::effect::Effect;
 use crate::record::add_if;
 use crate::transition::Transition;
+use crate::writes::{Fsync, Written, completed_by, fsync_of, mark_volatile, written_of};
 use bit_sets::BitSet;
 use entries::EIO;
 use finding_kinds::{Failure, Finding, Kind, Retry};
@@ -30,7 +30,7 @@ pub struct Durability {
     pub failures: Vec<Option<Failure>>,
 }
 
-// Returns an empty set for each object of a setup.
+// Returns an empty set for each of some objects.
 fn empty_sets(alloc: Global, objects: usize) -> Result<Vec<BitSet>, AllocError>
     ensures count { IfOk result (λ sets. length sets.items ≡ objects) }
     ensures none { IfOk result (λ sets. (o k : ℕ) → is_marked sets.items o k ≡ false) }
@@ -247,7 +247,13 @@ fn follow_effect(
         files.new.suspects.items files.old.retried.items files.new.retried.items) }
 {
     let retried = fsync_of(at.setup, 0, effect);
-    note_retry(retries, at.moment, retried, &files.suspects, &files.failures)?;
+    note_retry(
+        retries,
+        at.moment,
+        retried,
+        &files.suspects,
+        &files.failures,
+    )?;
     add_retried(&mut files.retried, at.moment, retried, &files.suspects)?;
     let written = written_of(at.setup, at.state, effect);
     add_written(&mut files.writes, written)?;

@@ -123,13 +123,7 @@ fn is_behind(state: &State, object: u32, durable: u64, at: u32) -> bool
 }
 
 // Returns whether a byte of a file is in a set or isn't durable.
-fn is_in_or_behind(
-    bytes: &BitSet,
-    state: &State,
-    object: u32,
-    durable: u64,
-    at: u32,
-) -> bool
+fn is_in_or_behind(bytes: &BitSet, state: &State, object: u32, durable: u64, at: u32) -> bool
     ensures { result ≡ (has bytes.now at || (nat_le durable at
         || differ (byte_in (view state.now (FileByte object at)))
         (byte_in (view state.now (DurableByte object at))))) }
