@@ -1,6 +1,6 @@
 -- Verdicts by the end of a run.
 use Rattle.std.proofs.Common.{◌≡◌, inl, inr, ℕ, zero, suc, ◌+◌, ◌-◌, ◌<◌, ◌≤◌, Bool, true, false, List, [], ◌∷◌, length, map, refl, sym, ap, ◌∙◌, arith}
-use Rattle.std.proofs.lemmas.Bool.{cases_lt, lt-ltb, le-ltb, or_from, or_left, or_right}
+use Rattle.std.proofs.lemmas.Bool.{cases_lt, lt-ltb, le-ltb, or_from, or_left, or_parts, or_right}
 use Rattle.std.proofs.lemmas.List.Folds.{list_any-append}
 use Rattle.std.proofs.lemmas.List.Elements.{All-head, All-tail}
 use Rattle.std.specs.Prelude.{Some, None, slice_get, nat_lt, ◌==◌, ◌&&◌, ◌||◌}
@@ -18,7 +18,7 @@ use Rattle.findings.specs.declared.writes.Written.{Written}
 use Rattle.findings.specs.Durability.{is_volatile_at, written_before, has_byte, has_byte_of}
 use Rattle.findings.specs.Findings.{is_lost, verdict_of, judged_kind}
 use Rattle.findings.specs.Records.{judged}
-use Rattle.findings.specs.Suspects.{is_marked, Judges, FollowsFiles}
+use Rattle.findings.specs.Suspects.{is_marked, is_early, has_early, Judges, FollowsFiles}
 use Rattle.findings.specs.Watched.{numbers_below}
 use Rattle.findings.proofs.Lasting.{below_there}
 use Rattle.findings.proofs.Marks.{marked_in, tells_none}
@@ -90,10 +90,21 @@ all_judged_alike lost other [] h = refl
 all_judged_alike lost other (f ∷ fs) h =
     ap (λ (kind : Kind). record f { kind = kind } ∷ map (judged lost) fs) (judged_alike lost other f.kind f.subject h) ∙ ap (λ (gs : List Finding). judged other f ∷ gs) (all_judged_alike lost other fs h)
 
+decided : (lost : ℕ → Bool) (kind : Kind) (q : ℕ) → is_early kind ≡ false → judged_kind lost kind q ≡ kind
+decided lost (Conflict (FsyncEarly verdict)) q e = cc
+decided lost _ q e = refl
+
+all_decided : (lost : ℕ → Bool) (fs : List Finding) → has_early fs ≡ false → map (judged lost) fs ≡ fs
+all_decided lost [] e = refl
+all_decided lost (f ∷ fs) e =
+    let parts = or_parts (is_early f.kind) (has_early fs) e in
+    ap (λ (kind : Kind). record f { kind = kind } ∷ map (judged lost) fs) (decided lost f.kind f.subject parts.0) ∙ ap (λ (gs : List Finding). f ∷ gs) (all_decided lost fs parts.1)
+
 -- The findings with their verdicts are those of the whole run.
 pub judged_at_end : (s : Setup) (es : List Event) (m : Machine) (ws : List Written) (sets : List (List ℕ)) (rs fs gs : List Finding) → m ≡ machine_at s es (length es) → FollowsFiles s es (length es) ws sets rs → Judges s m ws fs gs
     → gs ≡ map (judged (is_lost s es)) fs
-judged_at_end s es m ws sets rs fs gs here h j =
+judged_at_end s es m ws sets rs fs gs here h (inl p) = p.1 ∙ sym (all_decided (is_lost s es) fs p.0)
+judged_at_end s es m ws sets rs fs gs here h (inr j) =
     j.replaced ∙ ap (λ (xs : List Written). map (judged (has_byte_of (is_marked j.sets) xs)) fs) h.writes
     ∙ all_judged_alike (has_byte_of (is_marked j.sets) (written_before s es (length es))) (is_lost s es) fs
     (λ q. byte_of_alike (is_marked j.sets) (is_volatile_at (machine_at s es (length es))) (length s.objects) q (written_before s es (length es))

@@ -1,13 +1,16 @@
 -- What a search computes about WRITEs and FSYNCs.
-use Rattle.std.specs.Prelude.{◌≡◌, ℕ, ◌<◌, ◌==◌, Bool, true, false, not, ◌&&◌, ◌||◌, ◌++◌, Option, Some, None, slice_get, List, length, map}
+use Rattle.std.specs.Prelude.{◌≡◌, ℕ, ◌<◌, ◌==◌, Bool, true, false, not, ◌&&◌, ◌||◌, ◌++◌, ◌⊎◌, Option, Some, None, slice_get, List, length, map}
 use Rattle.std.specs.Bool.{MatchBool}
 use Rattle.std.specs.Option.{option_map_or, option_to_list}
+use Rattle.std.specs.List.{list_any}
 use Rattle.bit_sets.specs.Sets.{has}
 use Rattle.scenario.specs.declared.event.Event.{Event}
 use Rattle.scenario.specs.declared.setup.Setup.{Setup}
 use Rattle.machine.specs.declared.whole.Machine.{Machine}
 use Rattle.finding_kinds.specs.declared.finding.Finding.{Finding}
-use Rattle.finding_kinds.specs.declared.kind.Kind.TheVariants.{FsyncRetried}
+use Rattle.finding_kinds.specs.declared.kind.Kind.{Kind}
+use Rattle.finding_kinds.specs.declared.kind.Kind.TheVariants.{Conflict, FsyncRetried}
+use Rattle.finding_kinds.specs.declared.kind.ConflictKind.TheVariants.{FsyncEarly}
 use Rattle.findings.specs.declared.writes.Fsync.{Fsync}
 use Rattle.findings.specs.declared.writes.Written.{Written}
 use Rattle.findings.specs.declared.effect.Effect.{Effect}
@@ -47,8 +50,21 @@ pub record FollowsFiles (s : Setup) (es : List Event) (n : ℕ) (ws : List Writt
   pub suspects : (o k : ℕ) → MatchBool (is_marked sets o k) (IsSuspect s es n o k) (IsSuspect s es n o k → ⊥)
   pub retried : RetriedBefore s es n fs
 
+-- Whether the end of a run decides the verdict of a kind.
+abbrev pub is_early : Kind → Bool
+is_early (Conflict (FsyncEarly verdict)) = true
+is_early kind = false
+
+-- Whether it decides the verdict of some finding.
+abbrev pub has_early : List Finding → Bool
+has_early fs = list_any (λ (f : Finding). is_early f.kind) fs
+
 -- The findings with their verdicts, by sets of the bytes that are not durable at the end.
-pub record Judges (s : Setup) (m : Machine) (ws : List Written) (fs gs : List Finding) : Type 0 where
+pub record JudgesBy (s : Setup) (m : Machine) (ws : List Written) (fs gs : List Finding) : Type 0 where
   pub sets : List (List ℕ)
   pub volatile : (o k : ℕ) → o < length s.objects → is_marked sets o k ≡ is_volatile_at m o k
   pub replaced : gs ≡ map (judged (has_byte_of (is_marked sets) ws)) fs
+
+-- The same, or the findings as they are if the end decides no verdict.
+abbrev pub Judges : Setup → Machine → List Written → List Finding → List Finding → Type 0
+Judges s m ws fs gs = ((has_early fs ≡ false) × (gs ≡ fs)) ⊎ JudgesBy s m ws fs gs

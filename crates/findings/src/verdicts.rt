@@ -5,7 +5,7 @@ ghost use Rattle.bit_sets.specs.Sets.{has};
 ghost use Rattle.findings.specs.Durability.{is_volatile_at, has_byte, has_byte_of};
 ghost use Rattle.findings.specs.Findings.{verdict_of, judged_kind};
 ghost use Rattle.findings.specs.Records.{judged};
-ghost use Rattle.findings.specs.Suspects.{is_marked, Judges};
+ghost use Rattle.findings.specs.Suspects.{is_marked, is_early, has_early, JudgesBy, Judges};
 ghost use Rattle.findings.specs.Watched.{numbers_below};
 
 use crate::writes::{Written, mark_volatile};
@@ -109,7 +109,44 @@ fn judge_all(found: &mut [Finding], sets: &[BitSet], writes: &[Written])
     }
 }
 
-/// Gives each finding its verdict, by the state at the end of the run.
+fn is_early(kind: Kind) -> bool
+    ensures { result ≡ is_early kind }
+{
+    match kind {
+        Kind::Conflict(ConflictKind::FsyncEarly(_)) => true,
+        _ => false,
+    }
+}
+
+// Returns whether the end of the run decides the verdict of some finding.
+fn has_early(found: &[Finding]) -> bool
+    ensures { result ≡ has_early found.now }
+{
+    for finding in found {
+        if is_early(finding.kind) {
+            return true;
+        }
+    }
+    false
+}
+
+// Gives each finding its verdict.
+fn judge_by(
+    found: &mut Vec<Finding>,
+    setup: &Setup,
+    state: &State,
+    writes: &[Written],
+) -> Result<(), AllocError>
+    ensures { OnOk result
+        (JudgesBy setup.now state.now writes.now found.old.items found.new.items) }
+{
+    let sets = volatile_sets(*found.allocator(), setup, state)?;
+    judge_all(found, &sets, writes);
+    Ok(())
+}
+
+/// Gives each finding its verdict, by the state at the end of the run. Costs nothing more if the end
+/// decides no verdict.
 pub(crate) fn judge(
     found: &mut Vec<Finding>,
     setup: &Setup,
@@ -119,7 +156,9 @@ pub(crate) fn judge(
     ensures { OnOk result
         (Judges setup.now state.now writes.now found.old.items found.new.items) }
 {
-    let sets = volatile_sets(*found.allocator(), setup, state)?;
-    judge_all(found, &sets, writes);
+    if !has_early(found.as_slice()) {
+        return Ok(());
+    }
+    judge_by(found, setup, state, writes)?;
     Ok(())
 }
