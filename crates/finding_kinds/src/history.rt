@@ -61,15 +61,22 @@ pub struct Closed {
     pub descriptor: u32,
 }
 
-/// An FSYNC that completed without error at this moment, after an earlier one of its file failed.
+/// An FSYNC that completed with -5 (EIO).
 #[derive(Clone, Copy)]
-pub struct Retried {
-    pub moment: u32,
-    /// The last FSYNC of the file that failed with EIO.
+pub struct Failure {
+    /// The number of the request.
     pub row: u32,
     /// The moment before the event that completed it.
-    pub event: u32,
-    /// How many bytes that were not durable then have not been written again.
+    pub moment: u32,
+}
+
+/// An FSYNC that completed without error, at this moment, after one of its file had failed.
+#[derive(Clone, Copy)]
+pub struct Retry {
+    pub moment: u32,
+    /// The last FSYNC of the file that had failed.
+    pub failure: Failure,
+    /// How many bytes of the file were not durable when an FSYNC failed, and were not written since.
     pub bytes: u32,
 }
 
@@ -98,8 +105,8 @@ pub struct History {
     pub closes: Vec<Closed>,
     /// The incomplete requests that issued LINK_TIMEOUTs limit.
     pub limited: Vec<u32>,
-    /// In the order of their moments, at most one per moment.
-    pub retried: Vec<Retried>,
+    /// In the order of their moments, one per FSYNC that was retried.
+    pub retries: Vec<Retry>,
 }
 
 impl Drop for History {
@@ -116,7 +123,7 @@ impl Drop for History {
             reaps: _,
             closes: _,
             limited: _,
-            retried: _,
+            retries: _,
         } = self;
     }
 }
@@ -136,7 +143,7 @@ impl History {
             reaps: Vec::new(alloc),
             closes: Vec::new(alloc),
             limited: Vec::new(alloc),
-            retried: Vec::new(alloc),
+            retries: Vec::new(alloc),
         }
     }
 }

@@ -5,7 +5,7 @@ use Rattle.std.proofs.lemmas.List.{length-take-le}
 use Rattle.std.proofs.lemmas.Option.{same_Some, none-some}
 use Rattle.std.proofs.lemmas.Slice.Eq.{bytes_eq-Decides}
 use Rattle.std.specs.Bool.{MatchBool}
-use Rattle.std.specs.Prelude.{Option, Some, None, option_map, slice_get, not, ◌==◌}
+use Rattle.std.specs.Prelude.{Option, Some, None, option_map, slice_get, not, nat_lt, nat_le, ◌==◌, ◌&&◌, ◌||◌}
 use Rattle.std.specs.Option.{option_map_or, option_and_then}
 use Rattle.std.specs.Str.{bytes_eq}
 use Rattle.places.proofs.ListLemmas.{slice_get-take_below}
@@ -18,6 +18,7 @@ use Rattle.model_files.specs.Worlds.{body_seen, file_in}
 use Rattle.machine.specs.declared.whole.Machine.{Machine}
 use Rattle.machine.specs.Whole.{view, WellFormed}
 use Rattle.findings.specs.Conditions.{is_unsynced, has_unsynced}
+use Rattle.findings.specs.Durability.{is_volatile, is_volatile_at}
 use Rattle.finding_kinds.specs.Values.{number_in, byte_in, differ}
 
 -- Object o is a file with length n and durable length d.
@@ -133,3 +134,33 @@ bytes_decide m o n d false h x same none =
     ap (λ (k : ℕ). take k x.0.bytes) len ∙ same_bytes n x.0.bytes x.0.durable most durable (λ i l. sym (differ_seen m o i x.0 x.1) ∙ none i l) ∙ ap (λ (k : ℕ). take k x.0.durable) (sym durable_len)
     in
     file_unsynced m o x.0 x.1 ∙ ap not ((bytes_eq-Decides (content x.0) (durable_content x.0)).1 one)
+
+-- ---- bytes that are not durable
+
+-- An object without a length has no byte.
+pub volatile_none : (m : Machine) (o k : ℕ) → None ≡ number_in (view m (FileLength o)) → is_volatile_at m o k ≡ false
+volatile_none m o k = by (slice_get m.world.objects o)
+  where
+    by : (x : Option Body) → None ≡ number_in (option_and_then (λ (b : Body). body_seen b (FileLength o)) x) → option_map_or (λ (f : FileState). is_volatile f k) (option_and_then file_in x) false ≡ false
+    by None h = refl
+    by (Some (File f)) h = absurd (none-some f.len h)
+    by (Some (Pipe p)) h = refl
+    by (Some (EventFd c)) h = refl
+
+pub volatile_no_durable : (m : Machine) (o k : ℕ) → None ≡ number_in (view m (DurableLength o)) → is_volatile_at m o k ≡ false
+volatile_no_durable m o k = by (slice_get m.world.objects o)
+  where
+    by : (x : Option Body) → None ≡ number_in (option_and_then (λ (b : Body). body_seen b (DurableLength o)) x) → option_map_or (λ (f : FileState). is_volatile f k) (option_and_then file_in x) false ≡ false
+    by None h = refl
+    by (Some (File f)) h = absurd (none-some f.durable_len h)
+    by (Some (Pipe p)) h = refl
+    by (Some (EventFd c)) h = refl
+
+-- A byte of a file, by the values of its places.
+pub volatile_seen : (m : Machine) (o n d k : ℕ) → IsFile m o n d
+    → is_volatile_at m o k ≡ (nat_lt k n && (nat_le d k || differ (byte_in (view m (FileByte o k))) (byte_in (view m (DurableByte o k)))))
+volatile_seen m o n d k x =
+    ap (λ (y : Option Body). option_map_or (λ (f : FileState). is_volatile f k) (option_and_then file_in y) false) x.1
+    ∙ ap (λ (l : ℕ). nat_lt k l && (nat_le x.0.durable_len k || differ (slice_get x.0.bytes k) (slice_get x.0.durable k))) x.2
+    ∙ ap (λ (l : ℕ). nat_lt k n && (nat_le l k || differ (slice_get x.0.bytes k) (slice_get x.0.durable k))) x.3
+    ∙ ap (λ (b : Bool). nat_lt k n && (nat_le d k || b)) (sym (differ_seen m o k x.0 x.1))

@@ -1,7 +1,7 @@
 -- What a search has seen, after one more event and at the end.
 use Rattle.std.proofs.Common.{◌≡◌, inl, inr, ℕ, zero, suc, ◌+◌, ◌<◌, ◌≤◌, List, [], ◌++◌, length, map, get_or, slice_get, Bool, true, false, Option, Some, None, refl, sym, ap, ◌∙◌, subst, arith}
 use Rattle.std.proofs.lemmas.Bool.{cases_lt, cases_order}
-use Rattle.std.proofs.lemmas.List.Elements.{All-nil, All-append, All-weaker, All-contains, Contains-append_left, Contains-append_right, Contains-get_or}
+use Rattle.std.proofs.lemmas.List.Elements.{All-nil, All-append, All-weaker, All-map, All-contains, Contains-append_left, Contains-append_right, Contains-get_or}
 use Rattle.std.proofs.lemmas.Option.{slice_get_past}
 use Rattle.std.specs.Prelude.{option_map}
 use Rattle.std.specs.Option.{option_map_or}
@@ -23,24 +23,29 @@ use Rattle.finding_kinds.specs.declared.kind.Kind.TheVariants.{Ended, Overflow, 
 use Rattle.finding_kinds.specs.Programs.{instruction_at}
 use Rattle.findings.specs.declared.completed.Member.{Member}
 use Rattle.findings.specs.declared.conditions.Before.{Before}
+use Rattle.findings.specs.declared.writes.Written.{Written}
 use Rattle.findings.specs.declared.watching.Watch.{Watch}
 use Rattle.findings.specs.Endings.{Circumstances}
 use Rattle.findings.specs.Completions.{circumstances}
 use Rattle.findings.specs.Conditions.{overflows}
 use Rattle.findings.specs.Conflicts.{done_as, done_at}
-use Rattle.findings.specs.Findings.{EndsOver, occurs, occurs_at, Lasts, IsLeft, IsFinding, IsReportOf, Rises}
-use Rattle.findings.specs.Records.{members_of, severs_chain, cancels_at, noted, of_change, of_overflow, of_step, of_cancel, of_event, of_effect, after_notes, Covers, Adds, FoundBefore, IsLasting, AreLeft, IsAll, all_at_end, SameFindings}
+use Rattle.findings.specs.Durability.{completed_by}
+use Rattle.findings.specs.Findings.{EndsOver, occurs, occurs_at, is_lost, judged_kind, Lasts, IsLeft, Retries, IsFinding, IsReportOf, Rises}
+use Rattle.findings.specs.Records.{members_of, severs_chain, cancels_at, noted, of_change, of_overflow, of_step, of_cancel, of_event, of_effect, after_notes, Covers, Adds, FoundBefore, RetriedBefore, IsLasting, AreLeft, IsAll, judged, all_at_end, SameFindings}
 use Rattle.findings.specs.Searching.{facts_before, NotesFacts, HasSearched}
+use Rattle.findings.specs.Suspects.{Follows, FollowsFiles, Judges}
 use Rattle.findings.specs.Watched.{advanced, watched, of_lasting}
-use Rattle.findings.proofs.Lasting.{watched_first, advanced_more, lasting_reported}
+use Rattle.findings.proofs.Lasting.{watched_first, advanced_more, lasting_reported, has_map}
 use Rattle.findings.proofs.Left.{left_reported}
 use Rattle.findings.proofs.Threads.{threads_first, threads_more}
 use Rattle.findings.proofs.WouldConflict.{effect_done, effect_there, timespec_there}
 use Rattle.findings.proofs.Candidates.{covers_more, covers_none}
 use Rattle.findings.proofs.Groups.{the_finding}
 use Rattle.findings.proofs.Noted.{noted_told, changes_alike}
-use Rattle.findings.proofs.Members.{Has, has_left, has_right, has_contains}
+use Rattle.findings.proofs.Members.{Has, has_left, has_right, has_contains, contains_has}
 use Rattle.findings.proofs.Shown.{IsShown, record_shown, ended_there, queued_there, event_shown, event_overflow, event_step, event_cancel}
+use Rattle.findings.proofs.Suspecting.{follows_more, retried_within}
+use Rattle.findings.proofs.Judging.{judged_at_end}
 
 false_true : false ≡ true → ⊥
 false_true e = cc
@@ -53,13 +58,15 @@ found_none : (s : Setup) (es : List Event) → FoundBefore s es zero []
 found_none s es = record { only = All-nil (IsEarly s es zero); whole = λ f l h. absurd (omega arith) }
 
 -- At the start of a run.
-pub seen_none : (s : Setup) (es : List Event) (m : Machine) (fs : List Finding) (numbers : List ℕ) (ws : List Watch) → m ≡ start s → fs ≡ [] → ws ≡ map (advanced s m zero) (watched s) → length es ≤ 1048576 → HasSearched s es zero fs numbers ws
-seen_none s es m fs numbers ws e h w l = record {
+pub seen_none : (s : Setup) (es : List Event) (m : Machine) (fs : List Finding) (numbers : List ℕ) (ws : List Watch) (writes : List Written) (sets : List (List ℕ)) (retried : List Finding) → m ≡ start s → fs ≡ [] → ws ≡ map (advanced s m zero) (watched s) → length es ≤ 1048576
+    → FollowsFiles s es zero writes sets retried → HasSearched s es zero fs numbers ws writes sets retried
+seen_none s es m fs numbers ws writes sets retried e h w l files = record {
   most = l;
   found = subst (FoundBefore s es zero) (sym h) (found_none s es);
   covered = covers_none numbers;
   watching = w ∙ ap (λ (x : Machine). map (advanced s x zero) (watched s)) e ∙ watched_first s es;
   threads = threads_first s;
+  files = files;
 }
 
 -- Whether an event is a finding.
@@ -153,16 +160,17 @@ added_by s i told b e n past fs now =
     ++ of_effect i s n (done_as e (instruction_at s e b.counter) n) now
 
 -- After one more event.
-pub seen_more : (s : Setup) (es : List Event) (i : ℕ) (n : Machine) (e : Event) (b : Before) (past : List Change) (severing canceled : List Member) (fs gs : List Finding) (numbers now : List ℕ) (ws xs : List Watch)
-    → HasSearched s es i fs numbers ws → NotesFacts s es i b → IsAfter s es i e past n → WellFormed n → severing ≡ flat_map (members_of (severs_chain n.table) n.table) past → canceled ≡ flat_map (members_of cancels_at n.table) past
+pub seen_more : (s : Setup) (es : List Event) (i : ℕ) (n : Machine) (e : Event) (b : Before) (past : List Change) (severing canceled : List Member) (fs gs : List Finding) (numbers now : List ℕ) (ws xs : List Watch) (writes : List Written) (sets : List (List ℕ)) (retried : List Finding) (writes_now : List Written) (sets_now : List (List ℕ)) (retried_now : List Finding)
+    → HasSearched s es i fs numbers ws writes sets retried → NotesFacts s es i b → IsAfter s es i e past n → WellFormed n → severing ≡ flat_map (members_of (severs_chain n.table) n.table) past → canceled ≡ flat_map (members_of cancels_at n.table) past
     → gs ≡ added_by s i (noted s severing canceled b e n) b e n past fs now → NamesOnce past → now ≡ after_notes (view n) numbers past
-    → xs ≡ map (advanced s n (i + 1)) ws → HasSearched s es (i + 1) gs now xs
-seen_more s es i n e b past severing canceled fs gs numbers now ws xs h facts at formed severing_is canceled_is added once further w = record {
+    → xs ≡ map (advanced s n (i + 1)) ws → Follows s i n (completed_by e n) writes writes_now sets sets_now retried retried_now → HasSearched s es (i + 1) gs now xs writes_now sets_now retried_now
+seen_more s es i n e b past severing canceled fs gs numbers now ws xs writes sets retried writes_now sets_now retried_now h facts at formed severing_is canceled_is added once further w step = record {
   most = h.most;
   found = found_more s es i e fs gs numbers now at.there h.found (subst (λ (x : Machine). Covers x.table now) next_state covered) (subst (λ (x : Machine). Adds s i (machine_at s es i) e x fs gs numbers now) next_state adds);
   covered = subst (λ (x : Machine). Covers x.table now) at.at.here covered;
   watching = w ∙ ap (λ (ys : List Watch). map (advanced s n (i + 1)) ys) h.watching ∙ advanced_more s es i (i + 1) n (watched s) one at.at.here;
   threads = threads_more s es i e past n at h.threads;
+  files = follows_more s es i e n writes writes_now sets sets_now retried retried_now at.there at.at.here h.files step;
 }
   where
     one : i + 1 ≡ suc i
@@ -210,31 +218,55 @@ within s es f h =
           absurd (false_true (sym unreported ∙ h))
     ]
 
--- The findings of events, of conditions that last, and of things left at the end are all findings.
-pub all_found : (s : Setup) (es : List Event) (fs ls us gs : List Finding) → FoundBefore s es (length es) fs → IsLasting s es ls → AreLeft s es us → gs ≡ (fs ++ ls) ++ us → IsAll s es gs
-all_found s es fs ls us gs h lasting left e = subst (IsAll s es) (sym e) (record {
-  only = All-append (IsFinding s es) (fs ++ ls) us
-      (All-append (IsFinding s es) fs ls
-      (All-weaker (IsEarly s es (length es)) (IsFinding s es) (λ f p. inl p.1) fs h.only)
+-- A finding of an event, with its verdict.
+occurs_judged : (s : Setup) (es : List Event) (f : Finding) → occurs_at s es f.moment f.kind f.subject ≡ true → IsFinding s es (judged (is_lost s es) f)
+occurs_judged s es f h = inl (f.kind, h, refl)
+
+shown_there : (s : Setup) (es : List Event) (fs : List Finding) (f : Finding) (kind : Kind) → FoundBefore s es (length es) fs → occurs_at s es f.moment kind f.subject ≡ true → f.kind ≡ judged_kind (is_lost s es) kind f.subject → Contains (map (judged (is_lost s es)) fs) f
+shown_there s es fs f kind h shown same =
+    let there : Contains fs (the_finding f.moment kind f.subject) = h.whole (the_finding f.moment kind f.subject) (within s es (the_finding f.moment kind f.subject) shown) shown in
+    let mapped : Has (map (judged (is_lost s es)) fs) (judged (is_lost s es) (the_finding f.moment kind f.subject)) = has_map (judged (is_lost s es)) fs (the_finding f.moment kind f.subject) (contains_has fs (the_finding f.moment kind f.subject) there) in
+    subst (λ (k : Kind). Contains (map (judged (is_lost s es)) fs) (the_finding f.moment k f.subject)) (sym same) (has_contains (map (judged (is_lost s es)) fs) (judged (is_lost s es) (the_finding f.moment kind f.subject)) mapped)
+
+-- The findings of events, of conditions that last, of things left at the end, and of FSYNCs that
+-- are retried are all findings.
+pub all_found : (s : Setup) (es : List Event) (fs ls us rs gs : List Finding) → FoundBefore s es (length es) fs → IsLasting s es ls → AreLeft s es us → RetriedBefore s es (length es) rs → gs ≡ ((map (judged (is_lost s es)) fs ++ ls) ++ us) ++ rs → IsAll s es gs
+all_found s es fs ls us rs gs h lasting left retried e = subst (IsAll s es) (sym e) (record {
+  only = All-append (IsFinding s es) ((map (judged (is_lost s es)) fs ++ ls) ++ us) rs
+      (All-append (IsFinding s es) (map (judged (is_lost s es)) fs ++ ls) us
+      (All-append (IsFinding s es) (map (judged (is_lost s es)) fs) ls
+      (All-map (IsFinding s es) (judged (is_lost s es)) fs (All-weaker (IsEarly s es (length es)) (λ (f : Finding). IsFinding s es (judged (is_lost s es) f)) (λ f p. occurs_judged s es f p.1) fs h.only))
       (All-weaker (Lasts s es) (IsFinding s es) (λ f p. inr (inl p)) ls lasting.only))
-      (All-weaker (IsLeft s es) (IsFinding s es) (λ f p. inr (inr p)) us left.only);
+      (All-weaker (IsLeft s es) (IsFinding s es) (λ f p. inr (inr (inl p))) us left.only))
+      (All-weaker (λ (f : Finding). (f.moment < length es) × Retries s es f) (IsFinding s es) (λ f p. inr (inr (inr p.1))) rs retried.only);
   whole = λ f k. elim k [
-    | inl shown ↦ Contains-append_left (fs ++ ls) us f (Contains-append_left fs ls f (h.whole f (within s es f shown) shown))
-    | inr (inl began) ↦ Contains-append_left (fs ++ ls) us f (Contains-append_right fs ls f (lasting.whole f began))
-    | inr (inr unfinished) ↦ Contains-append_right (fs ++ ls) us f (left.whole f unfinished)
+    | inl shown ↦ before_left f (Contains-append_left (map (judged (is_lost s es)) fs) ls f (shown_there s es fs f shown.0 h shown.1 shown.2))
+    | inr (inl began) ↦ before_left f (Contains-append_right (map (judged (is_lost s es)) fs) ls f (lasting.whole f began))
+    | inr (inr (inl unfinished)) ↦ Contains-append_left ((map (judged (is_lost s es)) fs ++ ls) ++ us) rs f (Contains-append_right (map (judged (is_lost s es)) fs ++ ls) us f (left.whole f unfinished))
+    | inr (inr (inr again)) ↦ Contains-append_right ((map (judged (is_lost s es)) fs ++ ls) ++ us) rs f (retried.whole f (retried_within s es f again) again)
   ];
 })
+  where
+    before_left : (f : Finding) → Contains (map (judged (is_lost s es)) fs ++ ls) f → Contains (((map (judged (is_lost s es)) fs ++ ls) ++ us) ++ rs) f
+    before_left f c = Contains-append_left ((map (judged (is_lost s es)) fs ++ ls) ++ us) rs f (Contains-append_left (map (judged (is_lost s es)) fs ++ ls) us f c)
 
 -- At the end of a run, with the findings of what lasts or is left.
-pub seen_all : (s : Setup) (es : List Event) (m : Machine) (over : Bool) (fs gs : List Finding) (numbers : List ℕ) (ws xs : List Watch) → HasSearched s es (length es) fs numbers ws → IsAt s es (length es) m → SaysOver over m → xs ≡ ws
-    → gs ≡ (fs ++ flat_map (of_lasting over) xs) ++ all_at_end s (length es) over m → IsAll s es gs
-seen_all s es m over fs gs numbers ws xs h at says w e =
-    let ends : EndsOver s es over = subst (λ (x : Machine). SaysOver over x) at.here says in
-    all_found s es fs _ _ gs h.found (lasting_reported s es over xs ends (w ∙ h.watching)) (left_reported s es over m ends at.here) e
+pub seen_all : (s : Setup) (es : List Event) (m : Machine) (over : Bool) (fs js ks gs : List Finding) (numbers : List ℕ) (ws xs : List Watch) (writes vs : List Written) (sets : List (List ℕ)) (retried rs : List Finding)
+    → HasSearched s es (length es) fs numbers ws writes sets retried → IsAt s es (length es) m → SaysOver over m → vs ≡ writes → Judges s m vs fs js → xs ≡ ws
+    → ks ≡ (js ++ flat_map (of_lasting over) xs) ++ all_at_end s (length es) over m → rs ≡ retried → gs ≡ ks ++ rs → IsAll s es gs
+seen_all s es m over fs js ks gs numbers ws xs writes vs sets retried rs h at says v j w e r g =
+    all_found s es fs _ _ retried gs h.found (lasting_reported s es over xs ends (w ∙ h.watching)) (left_reported s es over m ends at.here) h.files.retried
+    (g ∙ ap (λ (ys : List Finding). ks ++ ys) r ∙ ap (λ (ys : List Finding). ys ++ retried) (e ∙ ap (λ (ys : List Finding). (ys ++ flat_map (of_lasting over) xs) ++ all_at_end s (length es) over m) judged_now))
+  where
+    ends : EndsOver s es over
+    ends = subst (λ (x : Machine). SaysOver over x) at.here says
+
+    judged_now : js ≡ map (judged (is_lost s es)) fs
+    judged_now = judged_at_end s es m writes sets retried fs js at.here h.files (subst (λ (us : List Written). Judges s m us fs js) v j)
 
 -- The machine at the end has at most the threads of the setup.
-pub few_threads : (s : Setup) (es : List Event) (m : Machine) (fs : List Finding) (numbers : List ℕ) (ws : List Watch) → HasSearched s es (length es) fs numbers ws → IsAt s es (length es) m → length m.threads ≤ length s.threads
-few_threads s es m fs numbers ws h at = let here = ap (λ (x : Machine). length x.threads) at.here in let same = h.threads in omega (arith, here, same)
+pub few_threads : (s : Setup) (es : List Event) (m : Machine) (fs : List Finding) (numbers : List ℕ) (ws : List Watch) (writes : List Written) (sets : List (List ℕ)) (retried : List Finding) → HasSearched s es (length es) fs numbers ws writes sets retried → IsAt s es (length es) m → length m.threads ≤ length s.threads
+few_threads s es m fs numbers ws writes sets retried h at = let here = ap (λ (x : Machine). length x.threads) at.here in let same = h.threads in omega (arith, here, same)
 
 -- All findings, sorted, are the report.
 pub report_of : (s : Setup) (es : List Event) (fs gs : List Finding) → IsAll s es fs → SameFindings fs gs → Rises gs → IsReportOf s es gs

@@ -20,4 +20,7 @@ pub mod Durability
 pub mod Blocked
 pub mod StuckSteps
 pub mod Threads
+pub mod Marks
+pub mod Suspecting
+pub mod Judging
 pub mod Followed

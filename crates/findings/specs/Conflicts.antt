@@ -172,7 +172,7 @@ is_synced_early s r done q row = (done.entry.opcode == 3) && (is_good done.phase
 --     the two is a WRITE.
 --   SharedPosition: r moved bytes at the position at which q begins, and q asks for at least one.
 --   FsyncEarly: r is an FSYNC of q's file without error, and q is an earlier WRITE of at least one
---     byte.
+--     byte. It is a note until the end of the run decides.
 abbrev pub would_conflict : ConflictKind → Setup → Machine → ℕ → Row → ℕ → Row → Bool
 would_conflict BufferInUse s m r done q row = (done.entry.opcode == 22) && is_in_buffer done.entry.addr (moved done.phase) row
 would_conflict Unordered s m r done q row = is_one_write done.entry row.entry && (is_over s m (moved done.phase) done.entry row && is_same_file s done.entry row.entry)

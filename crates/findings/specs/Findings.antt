@@ -11,11 +11,14 @@ use Rattle.machine.specs.Runs.{moment as machine_at}
 use Rattle.quiescence.specs.Over.{SaysOver}
 use Rattle.finding_kinds.specs.declared.kind.Kind.{Kind}
 use Rattle.finding_kinds.specs.declared.kind.Kind.TheVariants.{Ended, Overflow, Lasting, Left, Conflict, Step, Queued, Cancel, TimespecInUse, FsyncRetried}
+use Rattle.finding_kinds.specs.declared.kind.ConflictKind.TheVariants.{FsyncEarly}
 use Rattle.finding_kinds.specs.declared.kind.EndedKind.{EndedKind}
 use Rattle.finding_kinds.specs.declared.kind.LastingKind.{LastingKind}
 use Rattle.finding_kinds.specs.declared.kind.LeftKind.{LeftKind}
 use Rattle.finding_kinds.specs.declared.kind.QueuedKind.{QueuedKind}
 use Rattle.finding_kinds.specs.declared.kind.StepKind.{StepKind}
+use Rattle.finding_kinds.specs.declared.kind.Verdict.{Verdict}
+use Rattle.finding_kinds.specs.declared.kind.Verdict.TheVariants.{Fault, Note}
 use Rattle.finding_kinds.specs.declared.finding.Finding.{Finding}
 use Rattle.finding_kinds.specs.Orders.{order_of}
 use Rattle.findings.specs.declared.conditions.Condition.{Condition}
@@ -26,6 +29,7 @@ use Rattle.findings.specs.Conflicts.{clashes, done_at}
 use Rattle.findings.specs.Completions.{circumstances}
 use Rattle.findings.specs.Timespecs.{overwrites}
 use Rattle.findings.specs.Canceling.{cancel_shows}
+use Rattle.findings.specs.Durability.{is_volatile_at, written_before, has_byte_of, IsRetried}
 use Rattle.findings.specs.Uses.{changes_slot}
 
 -- ---- order
@@ -113,12 +117,45 @@ Lasts s es f = LastsSince s es f.moment f.kind f.subject
 abbrev pub IsLeft : Setup → List Event → Finding → Type 0
 IsLeft s es f = IsLeftAt s es f.moment f.kind f.subject
 
+-- ---- verdicts by the end
+
+-- Whether request q was a WRITE that moved bytes of a file some of which are not durable at the end
+-- of the run.
+abbrev pub is_lost : Setup → List Event → ℕ → Bool
+is_lost s es q = has_byte_of (is_volatile_at (machine_at s es (length es))) (written_before s es (length es)) q
+
+-- A fault if the test is true, else a note.
+abbrev pub verdict_of : Bool → Verdict
+verdict_of true = Fault
+verdict_of false = Note
+
+-- The kind of a finding about request q, once it is known which WRITEs are lost: an FSYNC that
+-- completed too early is a fault if the WRITE is lost, else a note.
+abbrev pub judged_kind : (ℕ → Bool) → Kind → ℕ → Kind
+judged_kind lost (Conflict (FsyncEarly verdict)) q = Conflict (FsyncEarly (verdict_of (lost q)))
+judged_kind lost kind q = kind
+
+-- An event is a finding of some kind, and this is its kind by the end of the run.
+abbrev pub Occurs : Setup → List Event → Finding → Type 0
+Occurs s es f = (shown : Kind) × (occurs_at s es f.moment shown f.subject ≡ true) × (f.kind ≡ judged_kind (is_lost s es) shown f.subject)
+
+-- ---- FSYNCs that are retried
+
+-- An event that completes an FSYNC without error though bytes are suspect.
+abbrev pub IsRetriedAt : Setup → List Event → ℕ → Kind → ℕ → Type 0
+IsRetriedAt s es i FsyncRetried r = IsRetried s es i r
+IsRetriedAt s es i kind r = ⊥
+
+abbrev pub Retries : Setup → List Event → Finding → Type 0
+Retries s es f = IsRetriedAt s es f.moment f.kind f.subject
+
 -- ---- all findings
 
--- A finding of a run is one of three: an event, at the moment before it; a condition that lasts to
--- the end, at the moment since when it holds; or something left at the end.
+-- A finding of a run is one of four: an event, at the moment before it; a condition that lasts to
+-- the end, at the moment since when it holds; something left at the end; or an event that retries a
+-- failed FSYNC, at the moment before it.
 abbrev pub IsFinding : Setup → List Event → Finding → Type 0
-IsFinding s es f = (occurs_at s es f.moment f.kind f.subject ≡ true) ⊎ (Lasts s es f ⊎ IsLeft s es f)
+IsFinding s es f = Occurs s es f ⊎ (Lasts s es f ⊎ (IsLeft s es f ⊎ Retries s es f))
 
 -- Exactly the findings of a run: nothing else, nothing left out, each once, in order.
 pub record IsReportOf (s : Setup) (es : List Event) (fs : List Finding) : Type 0 where

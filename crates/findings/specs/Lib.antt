@@ -8,6 +8,8 @@ pub mod AtEnd
 pub mod Watched
 pub mod Given
 pub mod Timespecs
+pub mod Durability
 pub mod Findings
 pub mod Records
+pub mod Suspects
 pub mod Searching

@@ -43,7 +43,7 @@ use Rattle.findings.specs.Canceling.{cancel_before, is_of_cancel}
 use Rattle.findings.specs.Conditions.{overflows, done_by, is_of_step, has_unsynced}
 use Rattle.findings.specs.Conflicts.{done_at, is_candidate, conflicts}
 use Rattle.findings.specs.Uses.{changes_at}
-use Rattle.findings.specs.Findings.{occurs_at, Lasts, IsLeft, IsFinding}
+use Rattle.findings.specs.Findings.{occurs_at, Lasts, IsLeft, Retries, IsFinding, judged_kind}
 pub use Rattle.findings.specs.Given.{given}
 use Rattle.findings.specs.Timespecs.{of_timespecs}
 use Rattle.findings.specs.Watched.{numbers_below}
@@ -223,6 +223,11 @@ pub record FoundBefore (s : Setup) (es : List Event) (n : ℕ) (fs : List Findin
   pub only : All (λ f. (f.moment < n) × (occurs_at s es f.moment f.kind f.subject ≡ true)) fs
   pub whole : (f : Finding) → f.moment < n → occurs_at s es f.moment f.kind f.subject ≡ true → Contains fs f
 
+-- Exactly the retried FSYNCs that the first n events complete.
+pub record RetriedBefore (s : Setup) (es : List Event) (n : ℕ) (fs : List Finding) : Type 0 where
+  pub only : All (λ f. (f.moment < n) × Retries s es f) fs
+  pub whole : (f : Finding) → f.moment < n → Retries s es f → Contains fs f
+
 -- Exactly the conditions that last to the end.
 pub record IsLasting (s : Setup) (es : List Event) (fs : List Finding) : Type 0 where
   pub only : All (Lasts s es) fs
@@ -253,6 +258,10 @@ all_at_end s n over m = all_left n over m.table ++ all_unsynced s n m
 pub record AreLeft (s : Setup) (es : List Event) (fs : List Finding) : Type 0 where
   pub only : All (IsLeft s es) fs
   pub whole : (f : Finding) → IsLeft s es f → Contains fs f
+
+-- A finding with its verdict, once it is known which WRITEs are lost.
+abbrev pub judged : (ℕ → Bool) → Finding → Finding
+judged lost f = record f { kind = judged_kind lost f.kind f.subject }
 
 -- Exactly the findings of a run, in any order.
 pub record IsAll (s : Setup) (es : List Event) (fs : List Finding) : Type 0 where

@@ -8,12 +8,14 @@ use Rattle.runs.specs.declared.driving.Ended.{Ended}
 use Rattle.runs.specs.declared.driving.Ended.TheVariants.{Refused, Memory, Stopped}
 use Rattle.finding_kinds.specs.declared.finding.Finding.{Finding}
 use Rattle.findings.specs.declared.conditions.Before.{Before}
+use Rattle.findings.specs.declared.writes.Written.{Written}
 use Rattle.findings.specs.declared.watching.Watch.{Watch}
 use Rattle.findings.specs.Canceling.{cancel_before}
 use Rattle.findings.specs.Completions.{expires_over_ready}
 use Rattle.findings.specs.Conditions.{overflows, counter_of, done_by}
 use Rattle.findings.specs.Findings.{condition_holds_at}
 use Rattle.findings.specs.Records.{Covers, FoundBefore}
+use Rattle.findings.specs.Suspects.{FollowsFiles}
 use Rattle.findings.specs.Uses.{changes_at}
 use Rattle.findings.specs.Watched.{continued, watched}
 
@@ -41,14 +43,15 @@ abbrev pub watch_at : Setup → List Event → ℕ → Watch → Watch
 watch_at s es n w = record w { since = since_of (condition_holds_at s es w.condition w.subject) n }
 
 -- The search has seen the first n events of a run: it has their findings, follows each incomplete
--- READ and WRITE, and knows since when each watched condition holds. The machine has the threads of
--- the setup.
-pub record HasSearched (s : Setup) (es : List Event) (n : ℕ) (fs : List Finding) (numbers : List ℕ) (ws : List Watch) : Type 0 where
+-- READ and WRITE, knows since when each watched condition holds, and has followed the WRITEs and
+-- FSYNCs. The machine has the threads of the setup.
+pub record HasSearched (s : Setup) (es : List Event) (n : ℕ) (fs : List Finding) (numbers : List ℕ) (ws : List Watch) (writes : List Written) (sets : List (List ℕ)) (retried : List Finding) : Type 0 where
   pub most : length es ≤ 1048576
   pub found : FoundBefore s es n fs
   pub covered : Covers (machine_at s es n).table numbers
   pub watching : ws ≡ map (watch_at s es n) (watched s)
   pub threads : length (machine_at s es n).threads ≡ length s.threads
+  pub files : FollowsFiles s es n writes sets retried
 
 -- Why a search ends early: the first refused event of the run, or an allocation failure.
 abbrev pub Halted : {E : Type 0} → Setup → List Event → Ended E → Type 0

@@ -50,7 +50,8 @@ fn finish_of(number: u32, row: Row) -> Effect
     }
 }
 
-fn finished_in(state: &State, number: u32) -> Effect
+/// Returns the effect of completing a request, by the state after it.
+pub(crate) fn finished_in(state: &State, number: u32) -> Effect
     ensures { result ≡ finished_in state.now number }
 {
     match row_at(state, number) {

@@ -18,11 +18,14 @@ mod noting;
 mod ordering;
 mod record;
 mod searching;
+mod suspects;
 mod timespecs;
 mod transition;
 mod twins;
 mod unsynced;
 mod uses;
+mod verdicts;
 mod watching;
+mod writes;
 
 pub use searching::{Found, Search, search_run};

@@ -23,8 +23,10 @@ use crate::leftover::add_all_left;
 use crate::noting::{note_counter, note_dropped, note_emptied, note_event, note_slot};
 use crate::ordering::in_order;
 use crate::record::{add_of_effect, add_of_event};
+use crate::suspects::{Durability, follow_files};
 use crate::transition::Transition;
 use crate::unsynced::add_all_unsynced;
+use crate::verdicts::judge;
 use crate::watching::{Watch, add_all_lasting, advance, watches_of};
 use finding_kinds::{Finding, History};
 use machine::{Event, Setup, State};
@@ -41,6 +43,8 @@ pub struct Search {
     numbers: Vec<u32>,
     /// The conditions that are findings if they last to the end.
     watches: Vec<Watch>,
+    /// The WRITEs and FSYNCs, and what became durable.
+    files: Durability,
     history: History,
 }
 
@@ -103,6 +107,7 @@ fn look(at: Transition<'_>, past: &Record, search: &mut Search) -> Result<(), Al
     ensures further { OnOk result (search.new.numbers.items
         ≡ after_notes (view at.entry.state.now) search.old.numbers.items past.now) }
     ensures watches { search.new.watches ≡ search.old.watches }
+    ensures files { search.new.files ≡ search.old.files }
 {
     note(at, &mut search.history)?;
     let rows = &mut search.history.rows;
@@ -147,7 +152,8 @@ impl Search {
         requires starts { state.now ≡ start setup.now }
         ensures { IfOk result (λ search. (es : List Event) → length es ≤ 1048576 →
             HasSearched setup.now es 0 search.found.items search.numbers.items
-            search.watches.items) }
+            search.watches.items search.files.writes.items search.files.suspects.items
+            search.files.retried.items) }
     {
         let mut watches = watches_of(alloc, setup)?;
         advance(setup, state, 0, &mut watches);
@@ -155,6 +161,7 @@ impl Search {
             found: Vec::new(alloc),
             numbers: Vec::new(alloc),
             watches,
+            files: Durability::new(alloc, setup)?,
             history: History::new(alloc),
         })
     }
@@ -164,19 +171,23 @@ impl Search {
     pub fn finish(self, setup: &Setup, events: &[Event], state: &State) -> Result<Found, AllocError>
         requires at { IsAt setup.now events.now (length events.now) state.now }
         requires seen { HasSearched setup.now events.now (length events.now) self.found.items
-            self.numbers.items self.watches.items }
+            self.numbers.items self.watches.items self.files.writes.items
+            self.files.suspects.items self.files.retried.items }
         ensures { IfOk result
             (λ found. IsReportOf setup.now events.now found.findings.items) }
     {
         let Search {
             mut found,
             watches,
+            files,
             history,
             ..
         } = self;
         let over = ends_over(setup, state)?;
         let end = events.len() as u32;
+        judge(&mut found, setup, state, &files.writes)?;
         add_end(&mut found, over, &watches, setup, end, state)?;
+        found.extend_from_slice(&files.retried)?;
         Ok(Found {
             findings: in_order(found),
             history,
@@ -189,7 +200,8 @@ impl Observer for Search {
 
     type Stop = AllocError;
 
-    ghost has_seen = { λ o s es i. HasSearched s es i o.found.items o.numbers.items o.watches.items };
+    ghost has_seen = { λ o s es i. HasSearched s es i o.found.items o.numbers.items o.watches.items
+        o.files.writes.items o.files.suspects.items o.files.retried.items };
 
     ghost notes = { λ s es i n. NotesFacts s es i n };
 
@@ -212,6 +224,7 @@ impl Observer for Search {
             completed: &completed,
         };
         look(done, past, self)?;
+        follow_files(done, &mut self.files, &mut self.history.retries)?;
         advance(at.setup, at.state, moment + 1, &mut self.watches);
         Ok(())
     }

@@ -81,11 +81,11 @@ pub(crate) fn fsync_retried(
     let Some(retried) = run.retried_at(about.moment) else {
         return Ok(String::new(alloc));
     };
-    let Some(failed) = run.name(retried.row) else {
+    let Some(failed) = run.name(retried.failure.row) else {
         return Ok(String::new(alloc));
     };
     let name = about.name();
-    let event = retried.event;
+    let event = retried.failure.moment;
     let bytes = Counted::bytes(u64::from(retried.bytes));
     let object = if retried.bytes == 1 { "it" } else { "them" };
     format!(in alloc;

@@ -3,7 +3,7 @@
 use crate::names::RowName;
 use entries::{ECANCELED, Phase, Row};
 use finding_kinds::{
-    EndedKind, Finding, History, Kind, Retried, Times, descriptor_number, instruction_at,
+    EndedKind, Finding, History, Kind, Retry, Times, descriptor_number, instruction_at,
 };
 use machine::{Event, Instruction, Setup, State};
 use places::{Place, Value};
@@ -114,8 +114,8 @@ impl Run<'_> {
 
     /// Returns what the history says about an FSYNC that completed at a moment, if an earlier one
     /// of its file had failed.
-    pub(crate) fn retried_at(&self, moment: u32) -> Option<Retried> {
-        let list = &self.history.retried;
+    pub(crate) fn retried_at(&self, moment: u32) -> Option<Retry> {
+        let list = &self.history.retries;
         let index = list.partition_point(|retried| retried.moment < moment);
         let retried = list.get(index).copied()?;
         if retried.moment == moment {

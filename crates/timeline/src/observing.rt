@@ -60,7 +60,8 @@ fn observers_of<K: StagesMoment + Ranged>(
         → HasFollowed setup.now es 0 K.at o.first.first.occupancy o.first.first.thread_stages) }
     ensures searches { IfOk result (λ o. (es : List Event) → length es ≤ 1048576
         → HasSearched setup.now es 0 o.first.second.found.items o.first.second.numbers.items
-        o.first.second.watches.items) }
+        o.first.second.watches.items o.first.second.files.writes.items
+        o.first.second.files.suspects.items o.first.second.files.retried.items) }
     ensures range { IfOk result (λ o. o.second.range ≡ K.range) }
     ensures none { IfOk result (λ o. o.second.steps.items ≡ []) }
 {
@@ -112,7 +113,8 @@ fn seen_of<K: StagesMoment + Ranged>(
         observers.first.first.occupancy observers.first.first.thread_stages }
     requires searches { HasSearched setup.now events.now (length events.now)
         observers.first.second.found.items observers.first.second.numbers.items
-        observers.first.second.watches.items }
+        observers.first.second.watches.items observers.first.second.files.writes.items
+        observers.first.second.files.suspects.items observers.first.second.files.retried.items }
     requires steps { AreSteps setup.now events.now K.range (length events.now)
         observers.second.steps.items }
     ensures { IfOk result (IsSeen setup.now events.now range) }

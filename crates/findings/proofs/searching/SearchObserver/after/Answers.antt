@@ -1,4 +1,6 @@
-use Rattle.std.proofs.Common.{◌+◌, ◌∙◌, ap, map, arith}
+use Rattle.std.proofs.Common.{◌+◌, ◌∙◌, ap, map, subst, arith}
+use Rattle.findings.specs.Durability.{completed_by}
+use Rattle.findings.specs.Suspects.{Follows}
 use Rattle.findings.specs.Watched.{advanced}
 use Rattle.findings.proofs.Followed.{seen_more}
 use Rattle.findings.proofs.Lasting.{mapped_back}
@@ -9,5 +11,6 @@ returns-clause-ok c =
     let e = c.in_ok-look.ensures in
     let len = c.deref_mut.ensures.len in
     let next = advanced c.args.at.setup.now c.args.at.state.now (c.args.at.index + 1) in
-    seen_more _ _ c.args.at.index c.args.at.state.now c.args.at.event c.args.note c.args.past.now _ _ _ _ _ _ _ _ c.requires.seen c.requires.note c.requires.at c.in_ok-completed.ensures.formed c.in_ok-completed.ensures.severing c.in_ok-completed.ensures.canceled e.added e.once e.further
+    seen_more _ _ c.args.at.index c.args.at.state.now c.args.at.event c.args.note c.args.past.now _ _ _ _ _ _ _ _ _ _ _ _ _ _ c.requires.seen c.requires.note c.requires.at c.in_ok-completed.ensures.formed c.in_ok-completed.ensures.severing c.in_ok-completed.ensures.canceled e.added e.once e.further
     (mapped_back next _ _ _ _ _ c.deref_mut.ensures.value c.advance.ensures (omega (arith, len)) ∙ ap (λ w. map next w.items) e.watches)
+    (subst (λ d. Follows c.args.at.setup.now c.args.at.index c.args.at.state.now (completed_by c.args.at.event c.args.at.state.now) d.writes.items c.follow_files.new.files.writes.items d.suspects.items c.follow_files.new.files.suspects.items d.retried.items c.follow_files.new.files.retried.items) e.files c.in_ok-follow_files.ensures)

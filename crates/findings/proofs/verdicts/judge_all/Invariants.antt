@@ -1,0 +1,8 @@
+use Rattle.std.proofs.Common.{◌≡◌, ◌++◌, take, drop, map}
+use Rattle.findings.specs.Durability.{has_byte_of}
+use Rattle.findings.specs.Records.{judged}
+use Rattle.findings.specs.Suspects.{is_marked}
+use Rattle.findings.proofs.verdicts.judge_all.Given as goal
+
+abbrev pub invariant-loop-finding : goal.invariant-loop-finding
+invariant-loop-finding l = l.found ≡ map (judged (has_byte_of (is_marked l.sets) l.writes)) (take l.finding-index l.fn.found) ++ drop l.finding-index l.fn.found

@@ -1,0 +1,164 @@
+//! Verdicts that the end of a run decides: whether a WRITE is lost (fsync(2)).
+ghost use Rattle.std.specs.Prelude.{◌≡◌, ℕ, ◌+◌, ◌<◌, ◌==◌, ◌&&◌, map, length, IfOk, OnOk};
+ghost use Rattle.std.specs.List.{list_any};
+ghost use Rattle.bit_sets.specs.Sets.{has};
+ghost use Rattle.findings.specs.Durability.{is_volatile_at, has_byte, has_byte_of};
+ghost use Rattle.findings.specs.Findings.{verdict_of, judged_kind};
+ghost use Rattle.findings.specs.Records.{judged};
+ghost use Rattle.findings.specs.Suspects.{is_marked, is_early, has_early, JudgesBy, Judges};
+ghost use Rattle.findings.specs.Watched.{numbers_below};
+
+use crate::writes::{Written, mark_volatile};
+use bit_sets::BitSet;
+use finding_kinds::{ConflictKind, Finding, Kind, Verdict};
+use machine::{Setup, State};
+use std::alloc::{AllocError, Global};
+
+// Returns for each object the bytes that are not durable.
+fn volatile_sets(alloc: Global, setup: &Setup, state: &State) -> Result<Vec<BitSet>, AllocError>
+    ensures { IfOk result (λ sets. (o k : ℕ) → o < length setup.now.objects
+        → is_marked sets.items o k ≡ is_volatile_at state.now o k) }
+{
+    let Ok(objects) = u32::try_from(setup.objects.as_slice().len()) else {
+        return Err(AllocError);
+    };
+    let mut sets = Vec::new(alloc);
+    for object in 0..objects {
+        let mut bytes = BitSet::new(alloc);
+        mark_volatile(&mut bytes, state, object)?;
+        sets.push(bytes)?;
+    }
+    Ok(sets)
+}
+
+// Returns whether a set has one of `count` numbers from `first` on.
+fn has_between(bytes: &BitSet, first: u64, count: u64) -> bool
+    ensures { result ≡ list_any (λ k. has bytes.now (first + k)) (numbers_below count) }
+{
+    match bytes.next(first as usize) {
+        Some(byte) => byte as u64 - first < count,
+        None => false,
+    }
+}
+
+// Returns whether a WRITE moved a byte of these sets.
+fn has_byte(sets: &[BitSet], written: &Written) -> bool
+    ensures { result ≡ has_byte (is_marked sets.now) written.now }
+{
+    match sets.get(written.file as usize) {
+        Some(bytes) => has_between(bytes, written.first, written.count),
+        None => false,
+    }
+}
+
+fn is_lost_by(sets: &[BitSet], written: &Written, row: u32) -> bool
+    ensures { result ≡ ((written.now.row == row) && has_byte (is_marked sets.now) written.now) }
+{
+    written.row == row && has_byte(sets, written)
+}
+
+// Returns whether a request is one of these WRITEs, and moved such a byte.
+fn has_byte_of(sets: &[BitSet], writes: &[Written], row: u32) -> bool
+    ensures { result ≡ has_byte_of (is_marked sets.now) writes.now row }
+{
+    for written in writes {
+        if is_lost_by(sets, written, row) {
+            return true;
+        }
+    }
+    false
+}
+
+fn verdict_of(is_fault: bool) -> Verdict
+    ensures { result ≡ verdict_of is_fault }
+{
+    if is_fault {
+        Verdict::Fault
+    } else {
+        Verdict::Note
+    }
+}
+
+// Returns the kind of a finding, given the bytes that are not durable at the end.
+fn judged_kind(sets: &[BitSet], writes: &[Written], kind: Kind, row: u32) -> Kind
+    ensures { result ≡ judged_kind (has_byte_of (is_marked sets.now) writes.now) kind row }
+{
+    match kind {
+        Kind::Conflict(ConflictKind::FsyncEarly(_)) => Kind::Conflict(ConflictKind::FsyncEarly(
+            verdict_of(has_byte_of(sets, writes, row)),
+        )),
+        _ => kind,
+    }
+}
+
+fn judged(sets: &[BitSet], writes: &[Written], finding: Finding) -> Finding
+    ensures { result ≡ judged (has_byte_of (is_marked sets.now) writes.now) finding }
+{
+    Finding {
+        moment: finding.moment,
+        kind: judged_kind(sets, writes, finding.kind, finding.subject),
+        subject: finding.subject,
+    }
+}
+
+fn judge_all(found: &mut [Finding], sets: &[BitSet], writes: &[Written])
+    ensures { found.new ≡ map (judged (has_byte_of (is_marked sets.now) writes.now)) found.old }
+{
+    for finding in found.iter_mut() {
+        *finding = judged(sets, writes, *finding);
+    }
+}
+
+fn is_early(kind: Kind) -> bool
+    ensures { result ≡ is_early kind }
+{
+    match kind {
+        Kind::Conflict(ConflictKind::FsyncEarly(_)) => true,
+        _ => false,
+    }
+}
+
+// Returns whether the end of the run decides the verdict of some finding.
+fn has_early(found: &[Finding]) -> bool
+    ensures { result ≡ has_early found.now }
+{
+    for finding in found {
+        if is_early(finding.kind) {
+            return true;
+        }
+    }
+    false
+}
+
+// Gives each finding its verdict.
+fn judge_by(
+    found: &mut Vec<Finding>,
+    setup: &Setup,
+    state: &State,
+    writes: &[Written],
+) -> Result<(), AllocError>
+    ensures { OnOk result
+        (JudgesBy setup.now state.now writes.now found.old.items found.new.items) }
+{
+    let sets = volatile_sets(*found.allocator(), setup, state)?;
+    judge_all(found, &sets, writes);
+    Ok(())
+}
+
+/// Gives each finding its verdict, by the state at the end of the run. Costs nothing more if the end
+/// decides no verdict.
+pub(crate) fn judge(
+    found: &mut Vec<Finding>,
+    setup: &Setup,
+    state: &State,
+    writes: &[Written],
+) -> Result<(), AllocError>
+    ensures { OnOk result
+        (Judges setup.now state.now writes.now found.old.items found.new.items) }
+{
+    if !has_early(found.as_slice()) {
+        return Ok(());
+    }
+    judge_by(found, setup, state, writes)?;
+    Ok(())
+}
