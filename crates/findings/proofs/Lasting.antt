@@ -187,7 +187,7 @@ module _ (s : Setup) (es : List Event) (over : Bool) (ends : EndsOver s es over)
   watches_last (w ∷ ws) =
       All-append (Lasts s es) (of_lasting over (watch_at s es (length es) w)) (flat_map (of_lasting over) (map (watch_at s es (length es)) ws)) (watch_lasts w) (watches_last ws)
 
-has_map : {X Y : Type 0} (f : X → Y) (xs : List X) (x : X) → Has xs x → Has (map f xs) (f x)
+pub has_map : {X Y : Type 0} (f : X → Y) (xs : List X) (x : X) → Has xs x → Has (map f xs) (f x)
 has_map f [] x h = absurd h
 has_map f (y ∷ ys) x (inl e) = inl (ap f e)
 has_map f (y ∷ ys) x (inr h) = inr (has_map f ys x h)
