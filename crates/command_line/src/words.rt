@@ -129,11 +129,7 @@ fn explain_of<'a>(alloc: Global, matches: &ArgMatches<'a>) -> Result<Job<'a>, Al
 }
 
 // Returns the job that the words after a subcommand describe.
-fn job_of<'a>(
-    alloc: Global,
-    verb: Verb,
-    matches: &ArgMatches<'a>,
-) -> Result<Job<'a>, AllocError> {
+fn job_of<'a>(alloc: Global, verb: Verb, matches: &ArgMatches<'a>) -> Result<Job<'a>, AllocError> {
     let script = text_of(matches, "SCRIPT");
     let run = text_of(matches, "RUN");
     let out = text_of(matches, "OUT");

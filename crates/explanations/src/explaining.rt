@@ -119,7 +119,10 @@ fn add_sum(
     request: Request<'_>,
 ) -> Result<(), AllocError> {
     let Request { kinds, allowed, .. } = request;
-    let reported = found.iter().filter(|it| is_requested(kinds, it.kind)).count();
+    let reported = found
+        .iter()
+        .filter(|it| is_requested(kinds, it.kind))
+        .count();
     let bad = found.iter().filter(|it| is_fault_of(kinds, it)).count();
     let faults = found.iter().filter(|it| counts(kinds, allowed, it)).count();
     let notes = reported.saturating_sub(bad);

@@ -3,7 +3,7 @@ use Rattle.std.proofs.Common.{◌≡◌, ℕ, ◌<◌, Bool, true, false, refl, 
 use Rattle.std.proofs.lemmas.Bool.{lt-ltb}
 use Rattle.std.proofs.lemmas.List.{length-map}
 use Rattle.std.proofs.lemmas.Option.{slice_get_within}
-use Rattle.std.specs.Prelude.{Option, Some, None, option_map, slice_get, not, nat_lt, ◌==◌, ◌&&◌, if◌then◌else◌, zero, suc}
+use Rattle.std.specs.Prelude.{Option, Some, None, option_map, slice_get, not, nat_lt, ◌&&◌, if◌then◌else◌, zero, suc}
 use Rattle.std.specs.Option.{option_map_or, option_and_then}
 use Rattle.places.specs.declared.value.Stage.{Stage}
 use Rattle.places.specs.declared.value.Stage.TheVariants.{Ready, Waiting}
@@ -15,10 +15,10 @@ use Rattle.scenario.specs.declared.setup.Instruction.TheVariants.{Put, Push, Sto
 use Rattle.scenario.specs.declared.setup.Setup.{Setup}
 use Rattle.sqpoll.specs.declared.poller.Poller.{Poller}
 use Rattle.machine.specs.declared.whole.Machine.{Machine}
-use Rattle.machine.specs.Steps.{refusal, thread_refusal, next_refusal, instruction_refusal, enter_refusal, alone_refusal, submission_refusal, before_submission, is_busy, is_unknown, ready_count}
+use Rattle.machine.specs.Steps.{refusal, thread_refusal, next_refusal, instruction_refusal, enter_refusal, alone_refusal, submission_refusal, before_submission, is_busy, is_unknown}
 use Rattle.machine.specs.Threads.{ThreadState, program_of}
 use Rattle.finding_kinds.specs.Programs.{instruction_at}
-use Rattle.findings.specs.Conditions.{is_held_up, done_by, is_ready, is_blocked, is_stuck, is_of_ring}
+use Rattle.findings.specs.Conditions.{is_held_up, is_blocked, is_stuck, is_of_ring}
 use Rattle.findings.proofs.Blocked.{and_false}
 
 and_true : (b : Bool) → (b && true) ≡ b

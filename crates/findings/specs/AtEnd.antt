@@ -1,5 +1,5 @@
 -- What lasts or is left at the end of a run, and whether that is a fault.
-use Rattle.std.specs.Prelude.{ℕ, ◌==◌, Bool, true, false, not, ◌&&◌, nat_lt, Option, Some, None, slice_get, List, length}
+use Rattle.std.specs.Prelude.{ℕ, ◌==◌, Bool, true, false, ◌&&◌, nat_lt, Option, Some, None, slice_get, List, length}
 use Rattle.std.specs.Option.{option_map_or}
 use Rattle.std.specs.List.{list_any}
 use Rattle.entries.specs.declared.row.Row.{Row}

@@ -1,5 +1,5 @@
 -- Findings about puts and closes while an entry or request still uses the slot or descriptor.
-use Rattle.std.specs.Prelude.{ℕ, ℤ, ◌==◌, Bool, false, not, ◌&&◌, ◌||◌, Option, Some, slice_get, List, length, drop, ◌-◌}
+use Rattle.std.specs.Prelude.{ℕ, ◌==◌, Bool, false, not, ◌&&◌, ◌||◌, Option, Some, slice_get, List, length, drop, ◌-◌}
 use Rattle.std.specs.Option.{option_map_or}
 use Rattle.std.specs.List.{list_any}
 use Rattle.entries.specs.declared.entry.Sqe.{Sqe}

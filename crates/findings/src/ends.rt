@@ -7,7 +7,7 @@ ghost use Rattle.findings.specs.Endings.{had_ended, was_issued, result_in, endin
 ghost use Rattle.findings.specs.Completions.{is_severing, cancels};
 ghost use Rattle.findings.specs.Records.{continues, noted};
 
-use crate::circumstances::{is_named, is_verdict, is_short_of_end, severs_others, was_ready};
+use crate::circumstances::{is_named, is_short_of_end, is_verdict, severs_others, was_ready};
 use crate::leftover::row_at;
 use crate::transition::Transition;
 use crate::twins::has_twin;

@@ -106,11 +106,7 @@ pub(crate) fn watches_of(alloc: Global, setup: &Setup) -> Result<Vec<Watch>, All
 pub(crate) fn fault_if(test: bool) -> Verdict
     ensures { result ≡ fault_if test }
 {
-    if test {
-        Verdict::Fault
-    } else {
-        Verdict::Note
-    }
+    if test { Verdict::Fault } else { Verdict::Note }
 }
 
 // Returns the finding that a condition is if it lasts to the end. `over` says whether the run is

@@ -120,7 +120,10 @@ fn named_text(
             let text = named_report(alloc, run, report, request.json);
             (text, Ending::from_report(explanation.is_faulty))
         }
-        Err(failure) => (text_of_failure(alloc, run, &failure, request.json), Ending::Failed),
+        Err(failure) => (
+            text_of_failure(alloc, run, &failure, request.json),
+            Ending::Failed,
+        ),
     }
 }
 

@@ -3,8 +3,8 @@ ghost use Rattle.std.specs.Prelude.{◌≤◌};
 
 use crate::{SCRIPT_AND_ONE, file_fault};
 use debug_server::{Fault, RunFault, ServeFault};
-use live_sessions::{answer_closed, live_script, trace_closed};
 use live_runner::Closed;
+use live_sessions::{answer_closed, live_script, trace_closed};
 use std::io;
 use std::rt::Files;
 use std::sync::Wait;

@@ -1,7 +1,6 @@
-use Rattle.std.proofs.Common.{◌≤◌, length, drop, sym, ◌∙◌, arith}
+use Rattle.std.proofs.Common.{◌≤◌, length, drop, arith}
 use Rattle.std.proofs.lemmas.List.{length-drop}
 use Rattle.ring_words.specs.Rings.{sub_list}
-use Rattle.findings.specs.Timespecs.{of_index}
 use Rattle.findings.proofs.OverwrittenTimes.{indexes_more, indexes_all}
 use Rattle.findings.proofs.timespecs.add_of_indexes.Goals as goal
 
