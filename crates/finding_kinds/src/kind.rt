@@ -40,7 +40,7 @@ pub enum Kind {
 pub enum EndedKind {
     /// It completed with an error that no other kind covers.
     Failed,
-    /// A READ or WRITE moved fewer bytes than it asked for. It is a note for a READ of a pipe, of an
+    /// A READ or WRITE moved fewer bytes than requested. It is a note for a READ of a pipe, of an
     /// eventfd, or up to the end of its file.
     Short(Verdict),
     /// A failed or short soft-linked request canceled the rest of its chain (IOSQE_IO_LINK).

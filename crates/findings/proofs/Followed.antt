@@ -41,7 +41,7 @@ use Rattle.findings.proofs.Threads.{threads_first, threads_more}
 use Rattle.findings.proofs.WouldConflict.{effect_done, effect_there, timespec_there}
 use Rattle.findings.proofs.Candidates.{covers_more, covers_none}
 use Rattle.findings.proofs.Groups.{the_finding}
-use Rattle.findings.proofs.Noted.{noted_told, changes_alike}
+use Rattle.findings.proofs.Noted.{noted_circumstances, changes_alike}
 use Rattle.findings.proofs.Members.{Has, has_left, has_right, has_contains, contains_has}
 use Rattle.findings.proofs.Shown.{IsShown, record_shown, ended_there, queued_there, event_shown, event_overflow, event_step, event_cancel}
 use Rattle.findings.proofs.Suspecting.{follows_more, retried_within}
@@ -154,8 +154,8 @@ facts_are s es i e b there h = ap (λ (o : Option Before). option_map_or (λ (x 
 
 -- What an event adds to the findings, by the facts that were noted before it.
 abbrev added_by : Setup → ℕ → (ℕ → Row → Circumstances) → Before → Event → Machine → List Change → List Finding → List ℕ → List Finding
-added_by s i told b e n past fs now =
-    ((fs ++ flat_map (of_change i told n.table) past)
+added_by s i circumstances_of b e n past fs now =
+    ((fs ++ flat_map (of_change i circumstances_of n.table) past)
     ++ (of_overflow i b.overflows (overflows n) ++ (of_step i b.changes (instruction_at s e b.counter) e n ++ of_cancel i b.cancel n.table)))
     ++ of_effect i s n (done_as e (instruction_at s e b.counter) n) now
 
@@ -182,14 +182,14 @@ seen_more s es i n e b past severing canceled fs gs numbers now ws xs writes set
     same_facts : facts_before s (machine_at s es i) e ≡ b
     same_facts = facts_are s es i e b at.there facts
 
-    told : (r : ℕ) (row : Row) → slice_get n.table r ≡ Some row → noted s severing canceled (facts_before s (machine_at s es i) e) e n r row ≡ circumstances s (machine_at s es i) e n r row
-    told r row k =
+    circumstances_of : (r : ℕ) (row : Row) → slice_get n.table r ≡ Some row → noted s severing canceled (facts_before s (machine_at s es i) e) e n r row ≡ circumstances s (machine_at s es i) e n r row
+    circumstances_of r row k =
         ap (λ (ms : List Member). noted s ms canceled (facts_before s (machine_at s es i) e) e n r row) severing_is
         ∙ ap (λ (ms : List Member). noted s (flat_map (members_of (severs_chain n.table) n.table) past) ms (facts_before s (machine_at s es i) e) e n r row) canceled_is
-        ∙ noted_told s (machine_at s es i) e n past r row at.exact once formed.mostly.table.chained k
+        ∙ noted_circumstances s (machine_at s es i) e n past r row at.exact once formed.mostly.table.chained k
 
     rows_same : flat_map (of_change i (noted s severing canceled (facts_before s (machine_at s es i) e) e n) n.table) past ≡ flat_map (of_change i (circumstances s (machine_at s es i) e n) n.table) past
-    rows_same = changes_alike i (noted s severing canceled (facts_before s (machine_at s es i) e) e n) (circumstances s (machine_at s es i) e n) n.table told past
+    rows_same = changes_alike i (noted s severing canceled (facts_before s (machine_at s es i) e) e n) (circumstances s (machine_at s es i) e n) n.table circumstances_of past
 
     covered : Covers n.table now
     covered = covers_more (machine_at s es i) n past numbers now h.covered at.exact further

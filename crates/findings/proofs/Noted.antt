@@ -220,9 +220,9 @@ module _ (before next_state : Machine) (cs : List Change) (x : Exact (view befor
       by false e = refl
 
 -- What is noted of an event is its circumstances.
-pub noted_told : (s : Setup) (before : Machine) (e : Event) (next_state : Machine) (cs : List Change) (r : ℕ) (row : Row) → Exact (view before) (view next_state) cs → NamesOnce cs → Chained next_state.table → slice_get next_state.table r ≡ Some row
+pub noted_circumstances : (s : Setup) (before : Machine) (e : Event) (next_state : Machine) (cs : List Change) (r : ℕ) (row : Row) → Exact (view before) (view next_state) cs → NamesOnce cs → Chained next_state.table → slice_get next_state.table r ≡ Some row
     → noted s (severing_in next_state cs) (canceled_in next_state cs) (facts_before s before e) e next_state r row ≡ circumstances s before e next_state r row
-noted_told s before e next_state cs r row x once chained k =
+noted_circumstances s before e next_state cs r row x once chained k =
     let ready = is_expiry_of r e && (expires_over_ready before e && has_canceled_target next_state.table row) in
     let over = expires_over next_state.table e r in
     let named = (not (row.unit == r) && is_severed_in (severing_in next_state cs) (canceled_in next_state cs) (member_of r row)) || over in

@@ -1,4 +1,4 @@
--- Changes that are of no request add no findings, and complete no request.
+-- Changes of other places than requests add no findings, and complete no request.
 use Rattle.std.proofs.Common.{◌≡◌, ℕ, ◌+◌, Bool, true, false, List, [], ◌∷◌, ◌++◌, refl, sym, ap, ◌∙◌}
 use Rattle.std.proofs.lemmas.Grind.{flat_map-append}
 use Rattle.std.proofs.lemmas.List.{append_assoc}
@@ -25,7 +25,7 @@ byte_no_row (File o) i = refl
 byte_no_row (Durable o) i = refl
 byte_no_row (Pipe o) i = refl
 
--- Recorded bytes of a region are of no request.
+-- Recorded bytes of a region belong to no request.
 pub bytes_no_row : (g : Region) (s : ℕ) (os : List (Option ℕ)) (cs : List Change) → OfNoRow cs → OfNoRow (old_bytes g s os ++ cs)
 bytes_no_row g s [] cs h = h
 bytes_no_row g s (None ∷ os) cs h = bytes_no_row g (s + 1) os cs h
@@ -38,7 +38,7 @@ place_follows_none : (v : View) (ns : List ℕ) (x : Option Value) (p : Place) �
 place_follows_none v ns x (Request r) e = absurd (true_false e)
 place_follows_none v ns x _ e = refl
 
--- A function of changes that gives nothing for those that are of no request.
+-- A function of changes that gives nothing for changes of other places than requests.
 abbrev pub OfRows : {X : Type 0} → (Change → List X) → Type 0
 OfRows f = (c : Change) → is_row c.place ≡ false → f c ≡ []
 
@@ -61,7 +61,7 @@ given_without {X} f of_rows cs bs ds h = sym (
     flat_map-append f cs (bs ++ ds)
     ∙ ap (λ (xs : List X). flat_map f cs ++ xs) (flat_map-append f bs ds ∙ ap (λ (xs : List X). xs ++ flat_map f ds) (gives_none f of_rows bs h)))
 
--- A record is covered if its first and last part are and its middle is of no request.
+-- A record is covered if its first and last part are and its middle names no request.
 pub parts_given : {X : Type 0} (f : Change → List X) → OfRows f → (all cs bs ds : List Change) (xs ys zs : List X) → all ≡ cs ++ (bs ++ ds) → OfNoRow bs → ys ≡ xs ++ flat_map f cs → zs ≡ ys ++ flat_map f ds → zs ≡ xs ++ flat_map f all
 parts_given {X} f of_rows all cs bs ds xs ys zs e h g k =
     k ∙ ap (λ (us : List X). us ++ flat_map f ds) g
@@ -69,14 +69,14 @@ parts_given {X} f of_rows all cs bs ds xs ys zs e h g k =
     ∙ ap (λ (us : List X). xs ++ us) (given_without f of_rows cs bs ds h ∙ ap (flat_map f) (sym e))
 
 -- The findings about requests.
-place_shows_none : (i : ℕ) (told : ℕ → Row → Circumstances) (rows : List Row) (x : Option Value) (p : Place) → is_row p ≡ false → of_place i told rows x p ≡ []
-place_shows_none i told rows x (Request r) e = absurd (true_false e)
-place_shows_none i told rows x _ e = refl
+place_shows_none : (i : ℕ) (circumstances_of : ℕ → Row → Circumstances) (rows : List Row) (x : Option Value) (p : Place) → is_row p ≡ false → of_place i circumstances_of rows x p ≡ []
+place_shows_none i circumstances_of rows x (Request r) e = absurd (true_false e)
+place_shows_none i circumstances_of rows x _ e = refl
 
-pub all_shown : {V E : Type 0} (r : Result V E) (i : ℕ) (told : ℕ → Row → Circumstances) (rows : List Row) (all cs bs ds : List Change) (fs gs hs : List Finding) → all ≡ cs ++ (bs ++ ds) → OfNoRow bs → gs ≡ fs ++ flat_map (of_change i told rows) cs
-    → OnOk r (hs ≡ gs ++ flat_map (of_change i told rows) ds) → OnOk r (hs ≡ fs ++ flat_map (of_change i told rows) all)
-all_shown (Ok x) i told rows all cs bs ds fs gs hs e h g k = parts_given (of_change i told rows) (λ c. place_shows_none i told rows c.old c.place) all cs bs ds fs gs hs e h g k
-all_shown (Err x) i told rows all cs bs ds fs gs hs e h g k = tt
+pub all_shown : {V E : Type 0} (r : Result V E) (i : ℕ) (circumstances_of : ℕ → Row → Circumstances) (rows : List Row) (all cs bs ds : List Change) (fs gs hs : List Finding) → all ≡ cs ++ (bs ++ ds) → OfNoRow bs → gs ≡ fs ++ flat_map (of_change i circumstances_of rows) cs
+    → OnOk r (hs ≡ gs ++ flat_map (of_change i circumstances_of rows) ds) → OnOk r (hs ≡ fs ++ flat_map (of_change i circumstances_of rows) all)
+all_shown (Ok x) i circumstances_of rows all cs bs ds fs gs hs e h g k = parts_given (of_change i circumstances_of rows) (λ c. place_shows_none i circumstances_of rows c.old c.place) all cs bs ds fs gs hs e h g k
+all_shown (Err x) i circumstances_of rows all cs bs ds fs gs hs e h g k = tt
 
 -- The requests that pass a test.
 place_has_none : (test : ℕ → Option Row → Row → Bool) (rows : List Row) (x : Option Value) (p : Place) → is_row p ≡ false → members_at test rows x p ≡ []

@@ -24,7 +24,7 @@ fault_if true = Fault
 fault_if false = Note
 
 -- The finding that a condition is if it lasts to the end. The Bool says whether the run is over
--- then. If it isn't, the run just ends, and more events could follow: a thread that waits and
+-- then. If it isn't, the run is cut off, and more events could follow: a thread that waits and
 -- entries that wait are notes, and a stuck thread is no finding.
 abbrev pub reported_as : Condition → Bool → Option LastingKind
 reported_as Waits over = Some (lasting.Waits (fault_if over))

@@ -84,7 +84,7 @@ has_descriptor m fd = is_some (view m (OpenMark fd))
 -- Whether a step of thread t is a finding about it, by its instruction, whether it changed a slot,
 -- and the machine after it (io_uring_enter(2), io_uring(7), close(2)):
 --   Busy: an enter returned EBUSY.
---   TakenShort: an enter took fewer entries than it was asked for, and returned no error.
+--   TakenShort: an enter took fewer entries than requested, and returned no error.
 --   RefusedFlags: an enter returned EINVAL, because of a flag other than IORING_ENTER_GETEVENTS and
 --     IORING_ENTER_SQ_WAKEUP.
 --   NoSuchSlot: the pushed index names no slot.

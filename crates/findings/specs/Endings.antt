@@ -96,7 +96,7 @@ is_verdict Note test = not test
 
 -- Whether completing with a result is a finding (io_uring_enter(2)):
 --   Failed: the result is an error that no other kind covers.
---   Short: a READ or WRITE moved fewer bytes than it asked for. It is a fault if it was short of the
+--   Short: a READ or WRITE moved fewer bytes than requested. It is a fault if it was short of the
 --     end of its file.
 --   Severed: a soft-linked request failed or was short itself, and a later one of its chain was
 --     canceled.

@@ -70,21 +70,21 @@ abbrev pub row_in : Option Value → Option Row
 row_in (Some (Requested row)) = Some row
 row_in _ = None
 
--- The findings about a recorded place, if it is a request. `told` gives the circumstances.
+-- The findings about a recorded place, if it is a request. `circumstances_of` gives the circumstances.
 abbrev pub of_place : ℕ → (ℕ → Row → Circumstances) → List Row → Option Value → Place → List Finding
-of_place i told rows before (Request r) = option_map_or (λ row. of_row i (told r row) (row_in before) rows r row) (slice_get rows r) []
-of_place i told rows before _ = []
+of_place i circumstances_of rows before (Request r) = option_map_or (λ row. of_row i (circumstances_of r row) (row_in before) rows r row) (slice_get rows r) []
+of_place i circumstances_of rows before _ = []
 
 -- The findings about one change of a record.
 abbrev pub of_change : ℕ → (ℕ → Row → Circumstances) → List Row → Change → List Finding
-of_change i told rows c = of_place i told rows c.old c.place
+of_change i circumstances_of rows c = of_place i circumstances_of rows c.old c.place
 
 -- Whether a place is a request.
 abbrev pub is_row : Place → Bool
 is_row (Request r) = true
 is_row _ = false
 
--- No change is of a request.
+-- No change names a request.
 abbrev pub OfNoRow : List Change → Type 0
 OfNoRow [] = Unit {0}
 OfNoRow (c ∷ cs) = (is_row c.place ≡ false) × OfNoRow cs

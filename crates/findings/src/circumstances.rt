@@ -43,7 +43,7 @@ fn ends_before(state: &State, count: u64, row: &Row, object: u32) -> bool
     end < u128::from(number_or_zero(state.value(Place::FileLength(object))))
 }
 
-// Returns whether the transfer is of a regular file and stopped before the file's end.
+// Returns whether the transfer stopped before the end of a regular file.
 fn stopped_early(at: Transition<'_>, row: &Row) -> bool
     ensures { result ≡ option_map_or
         (ends_before at.entry.state.now (moved row.now.phase) row.now.entry)

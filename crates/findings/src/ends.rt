@@ -205,7 +205,7 @@ fn leaves_chain(before: &Option<Row>, row: &Row, res: i32) -> bool
         && (is_bad(row, res) && (was_issued(before) || (before.is_some() && !is_canceled(res))))
 }
 
-// Returns whether a READ or WRITE moved fewer bytes than it asked for.
+// Returns whether a READ or WRITE moved fewer bytes than requested.
 fn is_short(row: &Row, res: i32) -> bool
     ensures { result ≡ (is_transfer row.now.entry.opcode && is_less res row.now.entry.len) }
 {

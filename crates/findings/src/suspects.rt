@@ -92,7 +92,7 @@ fn has_suspect(suspects: &[BitSet], file: u32) -> bool
     }
 }
 
-// Adds a finding if the FSYNC, which completed without error, is of a file with suspect bytes.
+// Adds a finding if the FSYNC, which completed without error, syncs a file with suspect bytes.
 fn add_retried(
     retried: &mut Vec<Finding>,
     moment: u32,
