@@ -105,9 +105,10 @@ pub from_start : (setup : Setup) (plain m n : Machine) (es before events : List 
     → (made : List Event) × Follows plain m es made × Adds m before made n events
     → Accepts (start setup) events × IsEager setup es events
 from_start setup plain m n es before events p q none f =
-    let all : f.0 ≡ events = sym (f.2.there ∙ ap (λ (x : List Event). x ++ f.0) none) in
-    (subst (λ (x : Machine). Accepts x events) q (subst (λ (x : List Event). Accepts m x) all f.2.accepts),
-    subst (λ (x : Machine). Follows x (start setup) es events) p (subst (λ (x : Machine). Follows plain x es events) q (subst (λ (x : List Event). Follows plain m es x) all f.1)))
+    let all : f.0 ≡ events = sym (f.2.there ∙ ap (λ (x : List Event). x ++ f.0) none) in (
+      subst (λ (x : Machine). Accepts x events) q (subst (λ (x : List Event). Accepts m x) all f.2.accepts),
+      subst (λ (x : Machine). Follows x (start setup) es events) p (subst (λ (x : Machine). Follows plain x es events) q (subst (λ (x : List Event). Follows plain m es x) all f.1)),
+    )
 
 pub stops_from_start : (setup : Setup) (plain m : Machine) (es : List Event) (i : ℕ) (n : Refusal) → plain ≡ start setup → m ≡ start setup → Stops plain m es i n → IsRefusedEagerly setup es i n
 stops_from_start setup plain m es i n p q s =

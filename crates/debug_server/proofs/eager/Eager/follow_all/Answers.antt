@@ -10,8 +10,8 @@ pub loop-i-preserved : goal.loop-i-preserved
 loop-i-preserved c = record {
   few = c.in_ok-follow.ensures.few;
   following =
-    follows_on c.args.self.now.plain c.args.self.now.state c.args.self.now.events.items c.args.schedule.now c.loop-i.i _ _ c.loop-i.self.plain c.loop-i.self.state c.follow.new.self.plain c.follow.new.self.state c.loop-i.self.events.items c.follow.new.self.events.items
-    c.loop-i-test.true c.loop-i.invariant.following c.in_ok-follow.ensures.plain c.in_ok-follow.ensures.follows refl;
+      follows_on c.args.self.now.plain c.args.self.now.state c.args.self.now.events.items c.args.schedule.now c.loop-i.i _ _ c.loop-i.self.plain c.loop-i.self.state c.follow.new.self.plain c.follow.new.self.state c.loop-i.self.events.items c.follow.new.self.events.items
+      c.loop-i-test.true c.loop-i.invariant.following c.in_ok-follow.ensures.plain c.in_ok-follow.ensures.follows refl;
 }
 
 pub returns-in_err-follow-clause-schedule : goal.returns-in_err-follow-clause-schedule

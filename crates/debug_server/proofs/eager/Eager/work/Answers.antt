@@ -10,8 +10,8 @@ work-preserved c = record {
   few = c.in-Ok.ensures.few;
   plain = c.add.ensures.plain ∙ c.work.invariant.plain;
   working =
-    works_on c.args.self.now.state c.work.self.state c.add.new.self.state c.args.self.now.events.items c.work.self.events.items c.add.new.self.events.items c.in-Some.event
-    c.work.invariant.working (sym c.in-Some.ensures) c.in-Ok.ensures.added;
+      works_on c.args.self.now.state c.work.self.state c.add.new.self.state c.args.self.now.events.items c.work.self.events.items c.add.new.self.events.items c.in-Some.event
+      c.work.invariant.working (sym c.in-Some.ensures) c.in-Ok.ensures.added;
 }
 
 pub work-smaller : goal.work-smaller
