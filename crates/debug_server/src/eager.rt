@@ -112,8 +112,8 @@ impl Eager {
         }
     }
 
-    // Makes all that kernel workers can do. The rules accept each event that a worker is offered, so
-    // only a failed allocation ends it early.
+    // Makes all that kernel workers can do. The rules accept each event that a worker is offered,
+    // so only a failed allocation ends it early.
     fn work(&mut self) -> Result<(), AllocError>
         requires { length self.old.events.items ≤ 1048576 }
         ensures few { OnOk result (length self.new.events.items ≤ 1048576) }
@@ -130,8 +130,8 @@ impl Eager {
         Ok(())
     }
 
-    // Makes an event of the eager run. More events than a trace can have are refused as `Memory`: no
-    // script is long enough for that.
+    // Makes an event of the eager run. More events than a trace can have are refused as `Memory`;
+    // no script is long enough for so many.
     fn add(&mut self, event: Event) -> Result<(), Refusal>
         requires { length self.old.events.items ≤ 1048576 }
         ensures few { OnOk result (length self.new.events.items ≤ 1048576) }

@@ -44,8 +44,8 @@ pub(crate) fn offer(
     }
 }
 
-/// Returns a kernel worker's next event, unless it has none or that advances the clock. Allocates no
-/// memory.
+/// Returns a kernel worker's next event, unless it has none or that advances the clock. Allocates
+/// no memory.
 pub fn eager_offer(state: &State) -> Option<Event>
     ensures { result ≡ eager_offer state.now }
 {
