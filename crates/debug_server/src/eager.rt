@@ -131,7 +131,7 @@ impl Eager {
     }
 
     // Makes an event of the eager run. More events than a trace can have are refused as `Memory`;
-    // no script is long enough for so many.
+    // no script is long enough for that.
     fn add(&mut self, event: Event) -> Result<(), Refusal>
         requires { length self.old.events.items ≤ 1048576 }
         ensures few { OnOk result (length self.new.events.items ≤ 1048576) }
