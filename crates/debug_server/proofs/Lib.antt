@@ -4,6 +4,7 @@ pub mod Feeding
 pub mod Reading
 pub mod Asking
 pub mod Alone
+pub mod Accepted
 pub mod Torn
 pub mod SyncLaws
 pub mod SyncLines

@@ -1,4 +1,4 @@
-use Rattle.live_sessions.proofs.Accepted.{answering}
+use Rattle.debug_server.proofs.Accepted.{answering}
 use Rattle.live_sessions.proofs.living.answer_closed.Goals as goal
 
 pub walk_events-requires-clause-starts : goal.walk_events-requires-clause-starts

@@ -1,5 +1,5 @@
 use Rattle.live_runner.specs.Actors.{actors}
-use Rattle.live_sessions.proofs.Accepted.{running}
+use Rattle.live_sessions.proofs.Running.{running}
 use Rattle.live_sessions.proofs.living.run_setup.Goals as goal
 
 pub returns-clause-same : goal.returns-clause-same

@@ -1,4 +1,4 @@
-use Rattle.live_sessions.proofs.Accepted.{all_accepted}
+use Rattle.debug_server.proofs.Accepted.{all_accepted}
 use Rattle.live_sessions.proofs.living.trace_closed.Goals as goal
 
 pub write_trace2-requires-clause-starts : goal.write_trace2-requires-clause-starts

@@ -1,5 +1,4 @@
--- Properties of accepted events: no transfer moves zero bytes, and none is refused. Also the faults
--- of live runs.
+-- Properties of accepted events: no transfer moves zero bytes, and none is refused.
 use Rattle.std.proofs.Common.{◌≡◌, ◌≢◌, ℕ, ℤ, zero, suc, ◌+◌, Bool, true, false, cond, Option, Result, Ok, Err, List, [], ◌∷◌, take, refl, sym, ap, ◌∙◌, arith}
 use Rattle.std.specs.Prelude.{◌-◌, ◌^◌, ◌==◌, nat_lt, nat_le, not, Some, None, IfErr, slice_get}
 use Rattle.std.specs.List.{list_all}
@@ -26,8 +25,6 @@ use Rattle.scenario.specs.declared.event.Event.TheVariants.{Step, Take, Sleep, I
 use Rattle.scenario.specs.declared.event.Refusal.{Refusal}
 use Rattle.scenario.specs.declared.event.Refusal.TheVariants.{BadChoice as BadlyChosen}
 use Rattle.scenario.specs.declared.setup.Setup.{Setup}
-use Rattle.scenario.specs.declared.setup.SetupRefusal.{SetupRefusal}
-use Rattle.scenario.specs.declared.setup.SetupRefusal.TheVariants.{Memory as OutOfMemory}
 use Rattle.machine.specs.declared.whole.Machine.{Machine}
 use Rattle.machine.specs.Steps.{refusal, after, outcome_refusal, phase_refusal, finish_refusal}
 use Rattle.machine.specs.Runs.{run, start, Accepts, IsRefused}
@@ -35,9 +32,6 @@ use Rattle.traces.specs.Spelling.{has_transfer}
 use Rattle.debug_server.specs.declared.faults.RunFault.{RunFault}
 use Rattle.debug_server.specs.declared.faults.RunFault.TheVariants.{Script, Schedule, Serve, Memory, Net, Trace}
 use Rattle.debug_server.specs.Kinds.{IsOf, OfSchedule, OfServing, OfMemory}
-use Rattle.live_sessions.specs.Living.{IsOfRunning}
-use Rattle.live_runner.specs.declared.running.LiveFault.{LiveFault}
-use Rattle.live_runner.specs.declared.running.LiveFault.TheVariants as live
 
 -- ---- Transfers of zero bytes
 
@@ -165,14 +159,3 @@ answers s es (Trace f) a g h = h
 pub answering : {A : Type 0} (K : Type 0) (s : Setup) (es : List Event) (r : Result A RunFault) → Accepts (start s) es → IfErr r (λ e. (i : ℕ) (n : Refusal) → e ≡ Schedule i n → IsRefused s es i n × K) → IfErr r (IsOf (OfSchedule ∷ OfServing ∷ OfMemory ∷ [])) → IfErr r (IsOf (OfServing ∷ OfMemory ∷ []))
 answering K s es (Ok x) a f h = h
 answering K s es (Err e) a f h = answers s es e a f h
-
--- ---- Runs that weren't closed
-
-no_start : (setup : Setup) (count : ℕ) (e : LiveFault) → ((n : SetupRefusal) → e ≡ live.Setup n → n ≡ OutOfMemory) → ((s : Setup) (k : ℕ) → e ≡ live.Strange s k → s ≡ setup → k ≢ count) → IsOfRunning setup count e
-no_start setup count (live.Setup n) f g = f n refl
-no_start setup count (live.Torn actor) f g = tt
-no_start setup count (live.Strange s k) f g = g s k refl
-
-pub running : {A : Type 0} (setup : Setup) (count : ℕ) (r : Result A LiveFault) → ((n : SetupRefusal) → r ≡ Err (live.Setup n) → n ≡ OutOfMemory) → ((s : Setup) (k : ℕ) → r ≡ Err (live.Strange s k) → s ≡ setup → k ≢ count) → IfErr r (IsOfRunning setup count)
-running setup count (Ok x) f g = tt
-running setup count (Err e) f g = no_start setup count e (λ n h. f n (ap (λ x. Err x) h)) (λ s k h. g s k (ap (λ x. Err x) h))
