@@ -205,6 +205,23 @@ def longer_drain(context, entry, ours, theirs):
     return bool(ours) and not theirs and is_open and any(it.flags & DRAIN for it in earlier)
 
 
+def late_drained(context):
+    """Returns the units next after a chain whose drain is on a later row than its first."""
+    units = list(dict.fromkeys(row.unit for row in context.rows))
+    late = {row.unit for before, row in zip(context.rows, context.rows[1:])
+            if row.entry.flags & DRAIN and row.unit == before.unit}
+    return {after for before, after in zip(units, units[1:]) if before in late}
+
+
+def chain_after_drain(context, entry, ours, theirs):
+    """Whether a kernel holds a request that completed here until the chain after a drain has completed."""
+    units = late_drained(context)
+    completed = {user for user, *_ in context.outcome.completions}
+    is_open = [row.number for row in context.rows if row.unit in units and row.entry.user_data not in completed]
+    rows = [row.number for row in context.rows if row.entry == entry]
+    return bool(ours and is_open) and not theirs and any(number > min(is_open) for number in rows)
+
+
 def counts_more(context, entry, ours, theirs):
     """Whether completions that a TIMEOUT counts on a kernel alone may have met it, or not."""
     canceled = any(row.entry.op == TIMEOUT and row.result == ECANCELED for row in context.rows)
@@ -225,6 +242,7 @@ def name_of_completion(context, it):
                  ("youngest-first", several_matches(context, entry)),
                  ("completion-clock", counts_more(context, entry, ours, theirs)),
                  ("worker-order", min([*ours, *theirs, 0]) == 0 and ours and theirs and after_worker(context, entry)),
+                 ("chain-after-drain", chain_after_drain(context, entry, ours, theirs)),
                  ("longer-drain", longer_drain(context, entry, ours, theirs))]
         for name, holds in items:
             if holds:
