@@ -230,8 +230,8 @@ impl Observer for Search {
     }
 }
 
-/// Steps the events of a run from its start, and returns their findings. Fails if an event is
-/// refused or an allocation fails.
+/// Steps the events of a run from its start to its end, and returns their findings. Fails if an
+/// event is refused or an allocation fails.
 pub fn search_run(
     alloc: Global,
     state: &mut State,
@@ -241,6 +241,7 @@ pub fn search_run(
     requires starts { state.old ≡ start setup.now }
     requires most { length events.now ≤ 1048576 }
     ensures runs { OnOk result (Accepts (start setup.now) events.now) }
+    ensures at { OnOk result (IsAt setup.now events.now (length events.now) state.new) }
     ensures ok { IfOk result (λ found. IsReportOf setup.now events.now found.findings.items) }
     ensures err { IfErr result (Halted setup.now events.now) }
 {

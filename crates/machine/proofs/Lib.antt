@@ -26,6 +26,7 @@ pub mod FormedSubmissions
 pub mod Formed
 pub mod NothingTaken
 pub mod Longer
+pub mod LinkedRuns
 pub mod Linking
 pub mod StartLemmas
 pub mod PipeCounts

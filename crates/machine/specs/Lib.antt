@@ -8,3 +8,4 @@ pub mod Refusals
 pub mod Runs
 pub mod Deadlines
 pub mod Owners
+pub mod Transfers

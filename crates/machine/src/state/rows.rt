@@ -5,13 +5,17 @@ ghost use Rattle.links_drains.specs.Queued.{next_queued, IsNextQueued, NoneQueue
 ghost use Rattle.links_drains.specs.Units.{is_open, next_issued, IsNextIssued, NoneIssuedFrom};
 ghost use Rattle.timeouts_cancel.specs.Matches.{matches_of};
 ghost use Rattle.machine.specs.Cancels.{key_of};
+ghost use Rattle.links_drains.specs.Holding.{is_held_by};
 ghost use Rattle.machine.specs.Deadlines.{deadline_at};
+ghost use Rattle.machine.specs.Transfers.{full_bytes, full_bytes_of, count_in};
 ghost use Rattle.machine.specs.Whole.{WellFormed};
 
 use super::State;
 use crate::cancelling::key_of;
+use crate::whole::Machine;
 use entries::{Row, Sqe};
 use links_drains::is_issued;
+use opcodes::{Choice, Op, Outcome};
 use timeouts_cancel::count_by;
 
 impl State {
@@ -67,5 +71,38 @@ impl State {
     {
         let row = self.machine.table.get(r)?;
         if is_issued(&row) { row.deadline } else { None }
+    }
+
+    /// Returns how many bytes an issued READ or WRITE transfers if it completes in full, or None if
+    /// it has to wait, fails, or is another request. Doesn't allocate.
+    pub fn full_bytes(&self, r: u32) -> Option<u32>
+        ensures { result ≡ full_bytes self.now r }
+    {
+        let row = self.machine.table.get(r)?;
+        self.machine.full_bytes(&row)
+    }
+}
+
+impl Machine {
+    fn full_bytes(&self, row: &Row) -> Option<u32>
+        ensures { result ≡ full_bytes_of (is_held_by self.now.table) self.now.world row.now }
+    {
+        let opcode = row.entry.opcode;
+        let is_transfer = opcode == Op::Read as u8 || opcode == Op::Write as u8;
+        if is_transfer && is_issued(row) {
+            count_in(self.outcome(row, Choice::Full))
+        } else {
+            None
+        }
+    }
+}
+
+// The number of bytes in a result that is no error.
+fn count_in(outcome: Outcome) -> Option<u32>
+    ensures { result ≡ count_in outcome }
+{
+    match outcome {
+        Outcome::Res(res) if res >= 0 => Some(res as u32),
+        _ => None,
     }
 }
