@@ -199,6 +199,27 @@ def reads(count):
     return trace
 
 
+def mixed_round(trace, first_slot):
+    """Submits eleven rows, the first of them from this slot, and completes and reaps all."""
+    trace.room(11 + 1 + 11)
+    trace.push([first_slot, *range(1, 11)])
+    trace.enter(11)
+    first = trace.rows
+    for row in range(4):  # a page of the file through the pipe, and back to another page
+        trace.end(first + row)
+    trace.issue(first + 4)  # waits for the pipe, and its linked timeout for a second
+    trace.issue(first + 6)  # waits for the pipe, until the next row cancels it
+    trace.end(first + 7)
+    trace.issue(first + 8)  # waits for one completion: that of the next row
+    trace.end(first + 9)
+    trace.issue(first + 10)  # waits for a second
+    trace.tick(10**9)
+    trace.expire(first + 5)
+    trace.expire(first + 10)
+    trace.reap(11)
+    trace.round(11)
+
+
 def mixed(events):
     """Files, pipes, links, linked timeouts, timeouts and cancels, eleven rows a round."""
     trace = Trace(16, 32)
@@ -222,23 +243,7 @@ def mixed(events):
     ])
     turn = 0
     while len(trace.events) < events:
-        trace.room(11 + 1 + 11)
-        trace.push([11 if turn % 2 else 0, *range(1, 11)])
-        trace.enter(11)
-        first = trace.rows
-        for row in range(4):  # a page of the file through the pipe, and back to another page
-            trace.end(first + row)
-        trace.issue(first + 4)  # waits for the pipe, and its linked timeout for a second
-        trace.issue(first + 6)  # waits for the pipe, until the next row cancels it
-        trace.end(first + 7)
-        trace.issue(first + 8)  # waits for one completion: that of the next row
-        trace.end(first + 9)
-        trace.issue(first + 10)  # waits for a second
-        trace.tick(10**9)
-        trace.expire(first + 5)
-        trace.expire(first + 10)
-        trace.reap(11)
-        trace.round(11)
+        mixed_round(trace, 11 if turn % 2 else 0)
         turn += 1
     return cut(trace, events)
 
