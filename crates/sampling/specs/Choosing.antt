@@ -1,6 +1,6 @@
 -- The event that a run does next: of the events that are offered and accepted, the one whose actor
 -- has the greatest rank. This is partial order sampling (Yuan, Yang and Gu, 2018).
-use Rattle.std.specs.Prelude.{◌≡◌, ℕ, ◌≤◌, ◌<◌, Option, Some, None}
+use Rattle.std.specs.Prelude.{◌≡◌, ℕ, ◌≤◌, ◌<◌, Bool, true, nat_lt, Option, Some, None, is_none, if◌then◌else◌}
 use Rattle.std.specs.Option.{MatchOption}
 use Rattle.scenario.specs.declared.event.Event.{Event}
 use Rattle.machine.specs.declared.whole.Machine.{Machine}
@@ -21,13 +21,14 @@ pub record IsBest (s : Source) (m : Machine) (n : ℕ) (rank : ℕ) (e : Event) 
   pub within : actor < n
   pub ready : IsReady s m actor e
   pub ranked : rank ≡ rank_of s m actor
-  pub greatest : (other : ℕ) (f : Event) → other < n → IsReady s m other f
+  pub greatest : (other : ℕ) → other < n → (f : Event) → IsReady s m other f
       → rank_of s m other ≤ rank
 
 -- No event of an actor below n is accepted.
 abbrev pub NoneReady : Source → Machine → ℕ → Type 0
-NoneReady s m n = (other : ℕ) (f : Event) → other < n → IsReady s m other f → ⊥
+NoneReady s m n = (other : ℕ) → other < n → (f : Event) → IsReady s m other f → ⊥
 
+-- The best event of the actors below n, if there is one.
 pub record SaysBest (s : Source) (m : Machine) (n : ℕ) (best : Option Best) : Type 0 where
   pub holds : MatchOption best (NoneReady s m n) (λ b. IsBest s m n b.rank b.event)
 
@@ -35,8 +36,22 @@ pub record SaysBest (s : Source) (m : Machine) (n : ℕ) (best : Option Best) : 
 pub record IsChosen (s : Source) (m : Machine) (e : Event) : Type 0 where
   pub actor : ℕ
   pub ready : IsReady s m actor e
-  pub greatest : (other : ℕ) (f : Event) → IsReady s m other f → rank_of s m other ≤ rank_of s m actor
+  pub greatest : (other : ℕ) (f : Event) → IsReady s m other f
+      → rank_of s m other ≤ rank_of s m actor
 
 -- No actor's event is accepted.
 pub record NoneChosen (s : Source) (m : Machine) : Type 0 where
   pub none : (actor : ℕ) (e : Event) → IsReady s m actor e → ⊥
+
+-- ---- one actor more
+
+-- Whether a rank is greater than that of the best event so far.
+abbrev pub beats : ℕ → Option Best → Bool
+beats rank None = true
+beats rank (Some b) = nat_lt b.rank rank
+
+-- The best event after an actor of a greater rank made an offer.
+abbrev pub challenged : Machine → ℕ → Option Event → Option Best → Option Best
+challenged m rank None best = best
+challenged m rank (Some e) best =
+    if is_none (refusal m e) then Some (record { rank = rank; event = e }) else best

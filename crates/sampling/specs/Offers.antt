@@ -1,50 +1,46 @@
 -- The next event that each actor offers. Actors are numbered: threads from 0, the poller 16,
 -- requests from 17, and the clock 65,553.
 use Rattle.std.specs.Prelude.{ℕ, ◌+◌, ◌-◌, ◌*◌, ◌/◌, ◌^◌, ◌==◌, Bool, true, false, not, ◌&&◌, ◌||◌, nat_lt, min, if◌then◌else◌, Option, Some, None, is_none, slice_get, List, [], ◌∷◌}
-use Rattle.std.specs.Option.{option_map_or, option_and_then}
+use Rattle.std.specs.Option.{option_map, option_map_or, option_and_then}
 use Rattle.entries.specs.declared.choice.Choice.{Choice}
 use Rattle.entries.specs.declared.choice.Choice.TheVariants.{Full, Short, Eio}
 use Rattle.entries.specs.declared.row.Row.{Row}
 use Rattle.entries.specs.declared.row.Phase.{Phase}
 use Rattle.entries.specs.declared.row.Phase.TheVariants.{Queued, Issued, Ended}
 use Rattle.opcodes.specs.Opcodes.{is_timer}
-use Rattle.places.specs.declared.value.Stage.{Stage}
+use Rattle.links_drains.specs.Units.{is_issued_row}
 use Rattle.ring_words.specs.Rings.{waiting}
 use Rattle.sqpoll.specs.declared.poller.Poller.{Poller}
 use Rattle.sqpoll.specs.declared.poller.Poller.TheVariants.{Awake, Asleep}
 use Rattle.scenario.specs.declared.event.Event.{Event}
 use Rattle.scenario.specs.declared.event.Event.TheVariants.{Step, Take, Sleep, Issue, Finish, Expire, Tick}
 use Rattle.machine.specs.declared.whole.Machine.{Machine}
-use Rattle.machine.specs.Threads.{ThreadState}
 use Rattle.machine.specs.Deadlines.{issued_deadline}
 use Rattle.machine.specs.Steps.{refusal}
 use Rattle.machine.specs.Transfers.{full_bytes}
 use Rattle.sampling.specs.Draws.{draw, mixed, below}
-use Rattle.sampling.specs.Locks.{is_waiting, holds, is_locked}
+use Rattle.sampling.specs.Locks.{holds, is_locked}
+use Rattle.sampling.specs.Spots.{spot_of}
+use Rattle.sampling.specs.declared.locks.Spot.{Spot}
 use Rattle.sampling.specs.declared.draws.Source.{Source}
 
 -- ---- Positions: an actor draws its rank anew once it has acted
 
-abbrev pub thread_position : Option ThreadState → ℕ
+abbrev pub thread_position : Option Spot → ℕ
 thread_position None = 0
-thread_position (Some x) = 2 * x.counter + (if is_waiting x.stage then 1 else 0)
+thread_position (Some x) = 2 * x.counter + (if x.is_waiting then 1 else 0)
 
-abbrev pub phase_position : Phase → ℕ
-phase_position Queued = 0
-phase_position Issued = 1
-phase_position (Ended res) = 2
+-- Whether request r is issued.
+abbrev pub is_issued_at : Machine → ℕ → Bool
+is_issued_at m r = option_map_or is_issued_row (slice_get m.table r) false
 
-abbrev pub row_position : Option Row → ℕ
-row_position None = 0
-row_position (Some row) = phase_position row.phase
-
--- Where an actor is: a thread's counter and whether it waits, the head of the submission ring, a
--- request's phase, or the clock.
+-- Where an actor is: a thread's counter and whether it waits, the head of the submission ring,
+-- whether a request is issued, or the clock.
 abbrev pub position_of : Machine → ℕ → ℕ
 position_of m actor =
-    if nat_lt actor 16 then thread_position (slice_get m.threads actor)
+    if nat_lt actor 16 then thread_position (option_map spot_of (slice_get m.threads actor))
     else if actor == 16 then m.submissions.head
-    else if nat_lt actor 65553 then row_position (slice_get m.table (actor - 17))
+    else if nat_lt actor 65553 then (if is_issued_at m (actor - 17) then 1 else 0)
     else m.clock
 
 -- The rank of an actor: a drawn number, whose lowest bits are the actor's number, so that ranks

@@ -1,11 +1,13 @@
 //! Choosing the next event of a run.
-ghost use Rattle.std.specs.Prelude.{◌≡◌, ◌<◌, ◌+◌, ◌≤◌, ◌^◌, IfSome, IfNone, MatchOption, length, map, slice_get};
+ghost use Rattle.std.specs.Prelude.{◌≡◌, ◌<◌, ◌+◌, ◌≤◌, ◌||◌, not, IfSome, IfNone, length, map, slice_get};
 ghost use Rattle.std.specs.Option.{option_map};
-ghost use Rattle.links_drains.specs.Units.{is_open};
 ghost use Rattle.machine.specs.Threads.{program_of};
-ghost use Rattle.sampling.specs.Choosing.{SaysBest, IsChosen, NoneChosen};
+ghost use Rattle.machine.specs.Steps.{refusal};
+ghost use Rattle.machine.specs.Whole.{WellFormed};
+ghost use Rattle.sampling.specs.Choosing.{SaysBest, IsChosen, NoneChosen, beats, challenged};
 ghost use Rattle.sampling.specs.Locks.{is_locked};
-ghost use Rattle.sampling.specs.Offers.{rank_at, rank_of, thread_position};
+ghost use Rattle.sampling.specs.Offers.{rank_at, thread_position, is_issued_at, step_offer};
+ghost use Rattle.sampling.specs.Spots.{spot_of};
 
 use crate::draws::{Source, mixed};
 use crate::locks::{Spot, holds, is_locked, spot_of};
@@ -30,45 +32,87 @@ pub(crate) struct Best {
     pub(crate) event: Event,
 }
 
-/// Returns the next event of a run, or None if no event that an actor offers is accepted.
-pub(crate) fn next_event(state: &State, program: &Program<'_>, source: &Source) -> Option<Event> {
+/// Returns the next event of a run, or None if no event that an actor offers is accepted. Doesn't
+/// allocate.
+pub(crate) fn next_event(state: &State, program: &Program<'_>, source: &Source) -> Option<Event>
+    requires programs { map program_of state.now.threads ≡ program.now.threads }
+    ensures some { IfSome result (IsChosen source.now state.now) }
+    ensures none { IfNone result (NoneChosen source.now state.now) }
+{
     let best = best_thread(state, program, source);
     let best = with_poller(state, source, best);
     let best = with_rows(state, source, best);
-    let best = with_clock(state, source, best)?;
-    Some(best.event)
+    match with_clock(state, source, best) {
+        Some(best) => Some(best.event),
+        None => None,
+    }
 }
 
-fn best_thread(state: &State, program: &Program<'_>, source: &Source) -> Option<Best> {
+fn best_thread(state: &State, program: &Program<'_>, source: &Source) -> Option<Best>
+    requires programs { map program_of state.now.threads ≡ program.now.threads }
+    ensures { SaysBest source.now state.now 16 result }
+{
     let is_free = source.unlocked || !is_locked(state, program);
     let mut best = None;
     for thread in 0..program.thread_count() {
-        let spot = spot_of(state, thread);
-        let rank = rank_at(source, thread as u64, thread_position(spot));
-        if beats(rank, best) && (is_free || holds(state, program, thread, spot)) {
-            best = if_accepted(state, rank, Some(Event::Step(thread)), best);
-        }
+        best = with_thread(state, program, source, is_free, thread, best);
     }
     best
 }
 
-fn thread_position(spot: Option<Spot>) -> u64 {
+// Returns the best event after a thread made its offer. `is_free` says whether a thread needs no
+// lock.
+fn with_thread(
+    state: &State,
+    program: &Program<'_>,
+    source: &Source,
+    is_free: bool,
+    thread: u32,
+    best: Option<Best>,
+) -> Option<Best>
+    requires programs { map program_of state.now.threads ≡ program.now.threads }
+    requires free { is_free ≡ (source.now.unlocked || not (is_locked state.now)) }
+    requires few { thread < 16 }
+    ensures { SaysBest source.now state.now thread best
+        → SaysBest source.now state.now (thread + 1) result }
+{
+    let spot = spot_of(state, thread);
+    let rank = rank_at(source, thread as u64, thread_position(spot));
+    if !beats(rank, best) {
+        return best;
+    }
+    let offer = if is_free || holds(state, program, thread, spot) {
+        Some(Event::Step(thread))
+    } else {
+        None
+    };
+    challenged(state, rank, offer, best)
+}
+
+fn thread_position(spot: Option<Spot>) -> u64
+    requires small { IfSome spot (λ s. s.counter ≤ 4096) }
+    ensures { result ≡ thread_position spot }
+{
     match spot {
-        Some(spot) => 2 * spot.counter + spot.is_waiting as u64,
+        Some(spot) => 2 * spot.counter + if spot.is_waiting { 1 } else { 0 },
         None => 0,
     }
 }
 
-fn with_poller(state: &State, source: &Source, best: Option<Best>) -> Option<Best> {
+fn with_poller(state: &State, source: &Source, best: Option<Best>) -> Option<Best>
+    ensures { SaysBest source.now state.now 16 best → SaysBest source.now state.now 17 result }
+{
     let rank = rank_at(source, POLLER, state.submissions().head() as u64);
-    if beats(rank, best) {
-        if_accepted(state, rank, poller_offer(state, source), best)
-    } else {
-        best
+    if !beats(rank, best) {
+        return best;
     }
+    challenged(state, rank, poller_offer(state, source), best)
 }
 
-fn with_rows(state: &State, source: &Source, mut best: Option<Best>) -> Option<Best> {
+fn with_rows(state: &State, source: &Source, first: Option<Best>) -> Option<Best>
+    ensures { SaysBest source.now state.now 17 first → SaysBest source.now state.now 65553 result }
+{
+    let mut best = first;
     let mut from = 0;
     'rows: while let Some(r) = state.next_unfinished(from) {
         best = with_row(state, source, r, best);
@@ -77,50 +121,68 @@ fn with_rows(state: &State, source: &Source, mut best: Option<Best>) -> Option<B
     best
 }
 
-fn with_row(state: &State, source: &Source, r: u32, best: Option<Best>) -> Option<Best> {
-    let rank = rank_at(source, FIRST_ROW + r as u64, is_issued(state, r) as u64);
-    if beats(rank, best) {
-        if_accepted(state, rank, row_offer(state, source, r), best)
-    } else {
-        best
+fn with_row(state: &State, source: &Source, r: u32, best: Option<Best>) -> Option<Best>
+    requires small { r < 65536 }
+    ensures { SaysBest source.now state.now (17 + r) best
+        → SaysBest source.now state.now (17 + r + 1) result }
+{
+    let position = if is_issued_at(state, r) { 1 } else { 0 };
+    let rank = rank_at(source, FIRST_ROW + r as u64, position);
+    if !beats(rank, best) {
+        return best;
     }
+    challenged(state, rank, row_offer(state, source, r), best)
 }
 
-fn is_issued(state: &State, r: u32) -> bool {
+// Returns whether a request is issued, without reading it.
+fn is_issued_at(state: &State, r: u32) -> bool
+    ensures { result ≡ is_issued_at state.now r }
+{
     match state.next_issued(r) {
         Some(next) => next == r,
         None => false,
     }
 }
 
-fn with_clock(state: &State, source: &Source, best: Option<Best>) -> Option<Best> {
+fn with_clock(state: &State, source: &Source, best: Option<Best>) -> Option<Best>
+    ensures { SaysBest source.now state.now 65553 best
+        → SaysBest source.now state.now 65554 result }
+{
     let rank = rank_at(source, CLOCK, state.clock());
-    if beats(rank, best) {
-        if_accepted(state, rank, clock_offer(state), best)
-    } else {
-        best
+    if !beats(rank, best) {
+        return best;
     }
+    challenged(state, rank, clock_offer(state), best)
 }
 
-fn if_accepted(
-    state: &State,
-    rank: u64,
-    offer: Option<Event>,
-    best: Option<Best>,
-) -> Option<Best> {
-    match offer {
-        Some(event) if state.refuses(event).is_none() => Some(Best { rank, event }),
-        _ => best,
-    }
-}
-
-fn beats(rank: u64, best: Option<Best>) -> bool {
+// Returns whether a rank is greater than that of the best event so far.
+fn beats(rank: u64, best: Option<Best>) -> bool
+    ensures { result ≡ beats rank best }
+{
     match best {
         Some(best) => rank > best.rank,
         None => true,
     }
 }
 
+// Returns the best event after an actor of a greater rank made its offer.
+fn challenged(state: &State, rank: u64, offer: Option<Event>, best: Option<Best>) -> Option<Best>
+    ensures { result ≡ challenged state.now rank offer best }
+{
+    match offer {
+        Some(event) => {
+            if state.refuses(event).is_none() {
+                Some(Best { rank, event })
+            } else {
+                best
+            }
+        }
+        None => best,
+    }
+}
+
+// Returns a drawn number whose lowest bits are the actor's number.
+#[tactic(auto, unfolding(crate::specs::Offers::rank_at))]
 fn rank_at(source: &Source, actor: u64, position: u64) -> u64
     requires { actor < 131072 }
     ensures { result ≡ rank_at source.now.key actor position }

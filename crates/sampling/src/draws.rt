@@ -63,6 +63,7 @@ pub(crate) fn source_of(options: SampleOptions, seed: u64, number: u32) -> Sourc
 }
 
 // Returns the key of a run.
+#[tactic(auto, unfolding(crate::specs::Draws::key_of))]
 fn key_of(seed: u64, number: u32) -> u64
     ensures { result ≡ key_of seed number }
 {
@@ -79,6 +80,7 @@ fn key_of(seed: u64, number: u32) -> u64
 }
 
 // The finalizer of SplitMix64 (Steele, Lea and Flood).
+#[tactic(auto, unfolding(crate::specs::Draws::finalized))]
 fn finalized(z: u64) -> u64
     ensures { result ≡ finalized z }
 {
@@ -88,6 +90,7 @@ fn finalized(z: u64) -> u64
 }
 
 /// Returns number `n` of SplitMix64 with a seed.
+#[tactic(auto, unfolding(crate::specs::Draws::draw))]
 pub(crate) fn draw(seed: u64, n: u64) -> u64
     ensures { result ≡ draw seed n }
 {

@@ -8,8 +8,13 @@ mod locks;
 mod offers;
 mod program;
 mod rows;
+mod running;
 mod samples;
 
 pub use draws::SampleOptions;
 pub use program::Program;
-pub use samples::{Sample, sample, undo};
+pub use running::{sample, undo};
+pub use samples::Sample;
+
+#[cfg(test)]
+mod tests;

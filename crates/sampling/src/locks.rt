@@ -1,8 +1,8 @@
 //! The lock that an application holds around its submission ring.
-ghost use Rattle.std.specs.Prelude.{◌≡◌, Some, None, IfOk, length, slice_get, map};
+ghost use Rattle.std.specs.Prelude.{◌≡◌, ◌≤◌, ℕ, nat_lt, Some, None, IfOk, IfSome, slice_get, map, drop};
+ghost use Rattle.std.specs.List.{list_any};
 ghost use Rattle.std.specs.Option.{option_map, option_map_or};
 ghost use Rattle.machine.specs.Threads.{program_of};
-ghost use Rattle.machine.specs.Whole.{WellFormed};
 ghost use Rattle.sampling.specs.Locks.{sections, writes_after, is_end, is_waiting, holds, locks, is_locked};
 ghost use Rattle.sampling.specs.Spots.{spot_of};
 
@@ -37,14 +37,17 @@ pub(crate) fn sections_of(
 }
 
 // Returns the index after the last Enter or Push.
-fn end_of(program: &[Instruction]) -> usize {
-    let mut end = 0;
-    for (counter, instruction) in program.iter().enumerate() {
-        if is_end(instruction) {
-            end = counter + 1;
+fn end_of(program: &[Instruction]) -> usize
+    ensures { (k : ℕ) → list_any is_end (drop k program.now) ≡ nat_lt k result }
+{
+    let mut end = program.len();
+    while end > 0 {
+        if is_end(&program[end - 1]) {
+            return end;
         }
+        end -= 1;
     }
-    end
+    0
 }
 
 fn is_end(instruction: &Instruction) -> bool
@@ -69,7 +72,7 @@ fn writes_after(written: bool, instruction: &Instruction) -> bool
 /// Returns where a thread is.
 pub(crate) fn spot_of(state: &State, thread: u32) -> Option<Spot>
     ensures value { result ≡ option_map spot_of (slice_get state.now.threads thread) }
-    ensures formed { WellFormed state.now }
+    ensures small { IfSome result (λ s. s.counter ≤ 4096) }
 {
     let counter = match state.value(Place::ProgramCounter(thread)) {
         Some(Value::Number(counter)) => counter,
