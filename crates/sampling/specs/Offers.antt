@@ -1,6 +1,6 @@
 -- The next event that each actor offers. Actors are numbered: threads from 0, the poller 16,
 -- requests from 17, and the clock 65,553.
-use Rattle.std.specs.Prelude.{ℕ, ◌+◌, ◌-◌, ◌*◌, ◌/◌, ◌^◌, ◌==◌, Bool, true, false, not, ◌&&◌, ◌||◌, nat_lt, min, if◌then◌else◌, Option, Some, None, is_none, slice_get, List, [], ◌∷◌}
+use Rattle.std.specs.Prelude.{ℕ, ◌+◌, ◌-◌, ◌*◌, ◌/◌, ◌^◌, ◌==◌, Bool, true, false, not, ◌&&◌, ◌||◌, nat_lt, min, if◌then◌else◌, Option, Some, None, is_none, slice_get, length, zero, suc}
 use Rattle.std.specs.Option.{option_map, option_map_or, option_and_then}
 use Rattle.entries.specs.declared.choice.Choice.{Choice}
 use Rattle.entries.specs.declared.choice.Choice.TheVariants.{Full, Short, Eio}
@@ -15,7 +15,7 @@ use Rattle.sqpoll.specs.declared.poller.Poller.TheVariants.{Awake, Asleep}
 use Rattle.scenario.specs.declared.event.Event.{Event}
 use Rattle.scenario.specs.declared.event.Event.TheVariants.{Step, Take, Sleep, Issue, Finish, Expire, Tick}
 use Rattle.machine.specs.declared.whole.Machine.{Machine}
-use Rattle.machine.specs.Deadlines.{issued_deadline}
+use Rattle.machine.specs.Deadlines.{deadline_at}
 use Rattle.machine.specs.Steps.{refusal}
 use Rattle.machine.specs.Transfers.{full_bytes}
 use Rattle.sampling.specs.Draws.{draw, mixed, below}
@@ -137,11 +137,15 @@ smaller_of None o = o
 smaller_of (Some a) None = Some a
 smaller_of (Some a) (Some b) = Some (min a b)
 
+-- The minimum of the values that a function has below n.
+abbrev pub least_value : (ℕ → Option ℕ) → ℕ → Option ℕ
+least_value f zero = None
+least_value f (suc n) = smaller_of (least_value f n) (f n)
+
 -- The least deadline of an issued request that is ahead of the clock.
-abbrev pub least_ahead : ℕ → List Row → Option ℕ
-least_ahead clock [] = None
-least_ahead clock (row ∷ rows) =
-    smaller_of (if_ahead clock (issued_deadline row)) (least_ahead clock rows)
+abbrev pub least_ahead : Machine → Option ℕ
+least_ahead m =
+    least_value (λ r. if_ahead m.clock (deadline_at m.table r)) (length m.table)
 
 -- The tick by which the clock reaches a deadline, if it can.
 abbrev pub tick_to : ℕ → Option ℕ → Option Event
@@ -149,7 +153,7 @@ tick_to clock None = None
 tick_to clock (Some t) = if nat_lt t (2 ^ 64) then Some (Tick (t - clock)) else None
 
 unfoldable pub clock_offer : Machine → Option Event
-clock_offer m = tick_to m.clock (least_ahead m.clock m.table)
+clock_offer m = tick_to m.clock (least_ahead m)
 
 -- ---- All actors
 

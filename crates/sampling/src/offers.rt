@@ -43,7 +43,7 @@ pub(crate) fn clock_offer(state: &State) -> Option<Event>
 
 // Returns the least deadline of an issued request that is ahead of the clock.
 fn least_ahead(state: &State) -> Option<u128>
-    ensures { result ≡ least_ahead state.now.clock state.now.table }
+    ensures { result ≡ least_ahead state.now }
 {
     let clock = state.clock();
     let mut least = None;
