@@ -1,9 +1,11 @@
 -- Locked sections of programs, and who holds the lock.
-use Rattle.std.proofs.Common.{◌≡◌, ℕ, zero, suc, ◌+◌, ◌-◌, ◌<◌, ◌≤◌, Bool, true, false, refl, sym, ap, ◌∙◌, subst, arith, List, [], ◌∷◌, ◌++◌, length, drop, map}
+use Rattle.std.proofs.Common.{◌≡◌, ℕ, zero, suc, ◌+◌, ◌-◌, ◌<◌, ◌≤◌, Bool, true, false, refl, sym, ap, ◌∙◌, subst, arith, List, [], ◌∷◌, ◌++◌, length, drop, map, get_or, inl, inr}
 use Rattle.std.specs.Prelude.{Option, Some, None, nat_lt, ◌||◌, ◌&&◌, not, slice_get, unwrap_or, is_none}
 use Rattle.std.specs.Option.{option_map, option_map_or}
 use Rattle.std.specs.List.{list_any}
-use Rattle.std.proofs.lemmas.Option.{slice_get-map}
+use Rattle.std.proofs.lemmas.Option.{slice_get-map, slice_get_read}
+use Rattle.std.proofs.lemmas.Bool.Decides.{nat_tests}
+use Rattle.std.proofs.lemmas.Bool.{cases_lt}
 use Rattle.scenario.specs.declared.setup.Instruction.{Instruction}
 use Rattle.machine.specs.declared.whole.Machine.{Machine}
 use Rattle.machine.specs.Threads.{ThreadState, program_of}
@@ -43,16 +45,19 @@ pub no_lock : (f : ℕ → Bool) (n : ℕ) → ((k : ℕ) → k < n → f k ≡ 
 no_lock f zero h = refl
 no_lock f (suc n) h = let a = no_lock f n (λ k low. h k (omega arith)) in let b = h n (omega arith) in rw (a, b) refl
 
+first_true : (a b : Bool) → a ≡ true → (a || b) ≡ true
+first_true true b h = refl
+first_true false b h = absurd (cc)
+
+by_place : (f : ℕ → Bool) (n k : ℕ) → k < suc n → (k < n → any_below f n ≡ true) → f k ≡ true → any_below f (suc n) ≡ true
+by_place f n k low earlier h = elim (cases_lt k n) [
+  | inl before ↦ first_true (any_below f n) (f n) (earlier before)
+  | inr after ↦ let same : k ≡ n = omega arith in or_true (any_below f n) (f n) (subst (λ (a : ℕ). f a ≡ true) same h)
+]
+
 pub some_lock : (f : ℕ → Bool) (n k : ℕ) → k < n → f k ≡ true → any_below f n ≡ true
 some_lock f zero k low h = absurd (omega arith)
-some_lock f (suc n) k low h = by (nat_lt k n) refl
-  where
-    first : (a b : Bool) → a ≡ true → (a || b) ≡ true
-    first true b e = refl
-    first false b e = absurd (cc)
-    by : (t : Bool) → nat_lt k n ≡ t → any_below f (suc n) ≡ true
-    by true e = first (any_below f n) (f n) (some_lock f n k (grind (arith, nat_tests)) h)
-    by false e = let same : k ≡ n = grind (arith, nat_tests) in or_true (any_below f n) (f n) (subst (λ (a : ℕ). f a ≡ true) same h)
+some_lock f (suc n) k low h = by_place f n k low (λ before. some_lock f n k before h) h
 
 -- A thread's counter is at most 4,096.
 pub counter_small : (m : Machine) (t : ℕ) (x : ThreadState) → WellFormed m → slice_get m.threads t ≡ Some x → x.counter ≤ 4096
@@ -64,3 +69,21 @@ holds_by : (o : Option ThreadState) → option_map_or holds o false ≡ option_m
 unfolding holds
 holds_by None = refl
 holds_by (Some x) = refl
+
+-- ---- where the last section ends
+
+pub ends_here : {X : Type 0} (f : X → Bool) (xs : List X) (end k : ℕ) (x : X) → 0 < end → end ≤ length xs → x ≡ get_or xs (end - 1) x → f x ≡ true → list_any f (drop end xs) ≡ false → list_any f (drop k xs) ≡ nat_lt k end
+ends_here f xs end k x some within is here none = elim (cases_lt k end) [
+  | inl low ↦
+    let at : slice_get xs (end - 1) ≡ Some x = slice_get_read xs (length xs) (end - 1) x refl (omega (arith, some, within)) is in
+    let less : nat_lt k end ≡ true = grind (arith, nat_tests) in
+    any_from f xs (end - 1) k x at here (omega (arith, low)) ∙ sym less
+  | inr high ↦
+    let more : nat_lt k end ≡ false = grind (arith, nat_tests) in
+    none_from f xs end k none high ∙ sym more
+]
+
+pub ends_nowhere : {X : Type 0} (f : X → Bool) (xs : List X) (end k : ℕ) → end ≡ 0 → list_any f (drop end xs) ≡ false → list_any f (drop k xs) ≡ nat_lt k 0
+ends_nowhere f xs end k is none =
+    let more : nat_lt k 0 ≡ false = grind (arith, nat_tests) in
+    none_from f xs end k none (omega (arith, is)) ∙ sym more

@@ -19,7 +19,7 @@ use Rattle.sampling.specs.declared.draws.Source.{Source}
 use Rattle.sampling.specs.declared.choosing.Best.{Best}
 use Rattle.sampling.specs.Locks.{holds, is_locked}
 use Rattle.sampling.specs.Spots.{spot_of}
-use Rattle.sampling.specs.Offers.{offer_of, rank_of, rank_at, thread_position, is_issued_at, step_offer, row_offer, phase_offer}
+use Rattle.sampling.specs.Offers.{offer_of, rank_of, rank_at, thread_position, row_position, step_offer, row_offer, phase_offer}
 use Rattle.sampling.specs.Choosing.{IsReady, SaysBest, IsChosen, NoneChosen}
 use Rattle.sampling.proofs.Ranking.{Idle, skipped}
 use Rattle.sampling.proofs.Repeating.{offered_below}
@@ -40,7 +40,7 @@ offer_row s m r h =
     let d : 17 + r - 17 ≡ r = omega arith in
     rw (a, b, c, d) refl
 
-pub rank_row : (s : Source) (m : Machine) (r : ℕ) → r < 65536 → rank_of s m (17 + r) ≡ rank_at s.key (17 + r) (if is_issued_at m r then 1 else 0)
+pub rank_row : (s : Source) (m : Machine) (r : ℕ) → r < 65536 → rank_of s m (17 + r) ≡ rank_at s.key (17 + r) (row_position m r)
 rank_row s m r h =
     let a : nat_lt (17 + r) 16 ≡ false = grind (arith, nat_tests) in
     let b : (17 + r == 16) ≡ false = grind (arith, nat_tests) in

@@ -22,11 +22,11 @@ pub offered_below : (s : Source) (m : Machine) (actor : ℕ) (e : Event) → off
 offered_below s m actor e h = elim (cases_lt actor 65554) [
   | inl low ↦ low
   | inr high ↦
-    let a : nat_lt actor 16 ≡ false = grind (arith, nat_tests) in
-    let b : (actor == 16) ≡ false = grind (arith, nat_tests) in
-    let c : nat_lt actor 65553 ≡ false = grind (arith, nat_tests) in
-    let d : (actor == 65553) ≡ false = grind (arith, nat_tests) in
-    let no : None ≡ Some e = rw (a, b, c, d) at h in absurd (cc)
+      let a : nat_lt actor 16 ≡ false = grind (arith, nat_tests) in
+      let b : (actor == 16) ≡ false = grind (arith, nat_tests) in
+      let c : nat_lt actor 65553 ≡ false = grind (arith, nat_tests) in
+      let d : (actor == 65553) ≡ false = grind (arith, nat_tests) in
+      let no : None ≡ Some e = rw (a, b, c, d) at h in absurd (cc)
 ]
 
 same_rank : (key a b p q : ℕ) → a < 65554 → b < 65554 → rank_at key a p ≡ rank_at key b q → a ≡ b

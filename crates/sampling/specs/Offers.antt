@@ -30,9 +30,9 @@ abbrev pub thread_position : Option Spot → ℕ
 thread_position None = 0
 thread_position (Some x) = 2 * x.counter + (if x.is_waiting then 1 else 0)
 
--- Whether request r is issued.
-abbrev pub is_issued_at : Machine → ℕ → Bool
-is_issued_at m r = option_map_or is_issued_row (slice_get m.table r) false
+-- 1 for an issued request, 0 for another.
+abbrev pub row_position : Machine → ℕ → ℕ
+row_position m r = if option_map_or is_issued_row (slice_get m.table r) false then 1 else 0
 
 -- Where an actor is: a thread's counter and whether it waits, the head of the submission ring,
 -- whether a request is issued, or the clock.
@@ -40,7 +40,7 @@ abbrev pub position_of : Machine → ℕ → ℕ
 position_of m actor =
     if nat_lt actor 16 then thread_position (option_map spot_of (slice_get m.threads actor))
     else if actor == 16 then m.submissions.head
-    else if nat_lt actor 65553 then (if is_issued_at m (actor - 17) then 1 else 0)
+    else if nat_lt actor 65553 then row_position m (actor - 17)
     else m.clock
 
 -- The rank of an actor: a drawn number, whose lowest bits are the actor's number, so that ranks

@@ -6,7 +6,7 @@ ghost use Rattle.machine.specs.Steps.{refusal};
 ghost use Rattle.machine.specs.Whole.{WellFormed};
 ghost use Rattle.sampling.specs.Choosing.{SaysBest, IsChosen, NoneChosen, beats, challenged};
 ghost use Rattle.sampling.specs.Locks.{is_locked};
-ghost use Rattle.sampling.specs.Offers.{rank_at, thread_position, is_issued_at, step_offer};
+ghost use Rattle.sampling.specs.Offers.{rank_at, thread_position, row_position, step_offer};
 ghost use Rattle.sampling.specs.Spots.{spot_of};
 
 use crate::draws::{Source, mixed};
@@ -126,21 +126,20 @@ fn with_row(state: &State, source: &Source, r: u32, best: Option<Best>) -> Optio
     ensures { SaysBest source.now state.now (17 + r) best
         → SaysBest source.now state.now (17 + r + 1) result }
 {
-    let position = if is_issued_at(state, r) { 1 } else { 0 };
-    let rank = rank_at(source, FIRST_ROW + r as u64, position);
+    let rank = rank_at(source, FIRST_ROW + r as u64, row_position(state, r));
     if !beats(rank, best) {
         return best;
     }
     challenged(state, rank, row_offer(state, source, r), best)
 }
 
-// Returns whether a request is issued, without reading it.
-fn is_issued_at(state: &State, r: u32) -> bool
-    ensures { result ≡ is_issued_at state.now r }
+// Returns whether a request is issued, as a number, without reading the request.
+fn row_position(state: &State, r: u32) -> u64
+    ensures { result ≡ row_position state.now r }
 {
     match state.next_issued(r) {
-        Some(next) => next == r,
-        None => false,
+        Some(next) if next == r => 1,
+        _ => 0,
     }
 }
 

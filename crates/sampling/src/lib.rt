@@ -15,6 +15,3 @@ pub use draws::SampleOptions;
 pub use program::Program;
 pub use running::{sample, undo};
 pub use samples::Sample;
-
-#[cfg(test)]
-mod tests;

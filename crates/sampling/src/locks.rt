@@ -1,5 +1,5 @@
 //! The lock that an application holds around its submission ring.
-ghost use Rattle.std.specs.Prelude.{◌≡◌, ◌≤◌, ℕ, nat_lt, Some, None, IfOk, IfSome, slice_get, map, drop};
+ghost use Rattle.std.specs.Prelude.{◌≡◌, ◌≤◌, ℕ, nat_lt, false, Some, None, IfOk, IfSome, slice_get, map, drop};
 ghost use Rattle.std.specs.List.{list_any};
 ghost use Rattle.std.specs.Option.{option_map, option_map_or};
 ghost use Rattle.machine.specs.Threads.{program_of};
@@ -20,10 +20,7 @@ pub(crate) struct Spot {
 }
 
 /// Returns, for each instruction, whether a thread that executes it next holds the lock.
-pub(crate) fn sections_of(
-    alloc: Global,
-    program: &[Instruction],
-) -> Result<Items<bool>, AllocError>
+pub(crate) fn sections_of(alloc: Global, program: &[Instruction]) -> Result<Items<bool>, AllocError>
     ensures { IfOk result (λ s. s ≡ sections program.now) }
 {
     let end = end_of(program);
@@ -70,6 +67,7 @@ fn writes_after(written: bool, instruction: &Instruction) -> bool
 }
 
 /// Returns where a thread is.
+#[tactic(auto, using(crate::proofs::Locking::counter_small))]
 pub(crate) fn spot_of(state: &State, thread: u32) -> Option<Spot>
     ensures value { result ≡ option_map spot_of (slice_get state.now.threads thread) }
     ensures small { IfSome result (λ s. s.counter ≤ 4096) }

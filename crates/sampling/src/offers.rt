@@ -4,11 +4,12 @@ ghost use Rattle.machine.specs.Whole.{WellFormed};
 ghost use Rattle.sampling.specs.Draws.{mixed, draw};
 ghost use Rattle.sampling.specs.Offers.{poller_offer, take_of, clock_offer, least_ahead, smaller_of, if_ahead, tick_to};
 
-use crate::draws::{Source, below, draw, mixed};
 use crate::choosing::POLLER;
+use crate::draws::{Source, below, draw, mixed};
 use machine::{Event, Refusal, State};
 
 /// Returns what the poller does next, if it is awake.
+#[tactic(auto, unfolding(crate::specs::Offers::poller_offer))]
 pub(crate) fn poller_offer(state: &State, source: &Source) -> Option<Event>
     ensures { result ≡ poller_offer source.now state.now }
 {
@@ -35,6 +36,7 @@ fn take_of(state: &State, n: u32, word: u64) -> Event
 }
 
 /// Returns the tick by which the clock reaches the least deadline that is ahead.
+#[tactic(auto, unfolding(crate::specs::Offers::clock_offer))]
 pub(crate) fn clock_offer(state: &State) -> Option<Event>
     ensures { result ≡ clock_offer state.now }
 {

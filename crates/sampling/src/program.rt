@@ -29,19 +29,19 @@ impl<'a> Model for Program<'a> {
     ghost use Rattle.std.specs.Prelude.{◌≡◌, None, map};
     ghost use Rattle.scenario.specs.Setups.{setup_refusal};
     ghost use Rattle.scenario.specs.declared.setup.Setup.{Setup};
-    ghost use Rattle.sampling.specs.Locks.{sections};
+    ghost use Rattle.sampling.specs.Locks.{sections as sections_of};
 
     ghost Value = { Setup };
 
     ghost view = { λ p. p.setup.now };
 
     ghost invariant = { λ p. (setup_refusal p.setup.now ≡ None)
-        × (p.sections ≡ map sections p.setup.now.threads) };
+        × (p.sections ≡ map sections_of p.setup.now.threads) };
 }
 
 impl<'a> Program<'a> {
-    ghost use Rattle.std.specs.Prelude.{◌≡◌, ◌≤◌, Some, None, IfOk, length, slice_get, unwrap_or};
-    ghost use Rattle.std.specs.Option.{option_and_then, option_map_or};
+    ghost use Rattle.std.specs.Prelude.{◌≡◌, ◌≤◌, None, false, IfOk, length, slice_get, unwrap_or};
+    ghost use Rattle.std.specs.Option.{option_map_or};
     ghost use Rattle.scenario.specs.Setups.{setup_refusal};
     ghost use Rattle.sampling.specs.Locks.{sections};
 

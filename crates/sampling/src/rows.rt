@@ -9,6 +9,7 @@ use machine::{Event, State};
 use opcodes::is_timer;
 
 /// Returns what happens to a request next.
+#[tactic(auto, unfolding(crate::specs::Offers::row_offer))]
 pub(crate) fn row_offer(state: &State, source: &Source, r: u32) -> Option<Event>
     requires small { r < 65536 }
     ensures { result ≡ row_offer source.now state.now r }
@@ -40,6 +41,7 @@ fn finish_offer(state: &State, source: &Source, r: u32) -> Event
     }
 }
 
+#[tactic(auto, unfolding(crate::specs::Offers::drawn_choice))]
 fn drawn_choice(state: &State, source: &Source, r: u32) -> Choice
     requires small { r < 65536 }
     ensures { result ≡ drawn_choice source.now state.now r }
