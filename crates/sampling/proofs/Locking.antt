@@ -10,7 +10,10 @@ use Rattle.scenario.specs.declared.setup.Instruction.{Instruction}
 use Rattle.machine.specs.declared.whole.Machine.{Machine}
 use Rattle.machine.specs.Threads.{ThreadState, program_of}
 use Rattle.machine.specs.Whole.{WellFormed}
-use Rattle.sampling.specs.Locks.{sections, is_waiting, holds, any_below}
+use Rattle.sampling.specs.Locks.{sections, is_waiting, holds, locks, any_below, is_locked}
+use Rattle.sampling.specs.Spots.{spot_of}
+use Rattle.sampling.specs.declared.locks.Spot.{Spot}
+use Rattle.std.proofs.lemmas.List.{length-map}
 
 -- ---- sections
 
@@ -65,11 +68,6 @@ counter_small m t x f e =
     let y = f.mostly.threads t x e in
     let a = y.within in let b = y.program.short in omega (arith, a, b)
 
-holds_by : (o : Option ThreadState) → option_map_or holds o false ≡ option_map_or (λ (x : ThreadState). not (is_waiting x.stage) && unwrap_or (slice_get (sections x.program) x.counter) false) o false
-unfolding holds
-holds_by None = refl
-holds_by (Some x) = refl
-
 -- ---- where the last section ends
 
 pub ends_here : {X : Type 0} (f : X → Bool) (xs : List X) (end k : ℕ) (x : X) → 0 < end → end ≤ length xs → x ≡ get_or xs (end - 1) x → f x ≡ true → list_any f (drop end xs) ≡ false → list_any f (drop k xs) ≡ nat_lt k end
@@ -87,3 +85,49 @@ pub ends_nowhere : {X : Type 0} (f : X → Bool) (xs : List X) (end k : ℕ) →
 ends_nowhere f xs end k is none =
     let more : nat_lt k 0 ≡ false = grind (arith, nat_tests) in
     none_from f xs end k none (omega (arith, is)) ∙ sym more
+
+-- ---- holding
+
+inside_is : (m : Machine) (ps : List (List Instruction)) (t counter : ℕ) (x : ThreadState) → map program_of m.threads ≡ ps → slice_get m.threads t ≡ Some x → option_map_or (λ p. unwrap_or (slice_get (sections p) counter) false) (slice_get ps t) false ≡ unwrap_or (slice_get (sections x.program) counter) false
+inside_is m ps t counter x e h =
+    let inside : Option (List Instruction) → Bool = λ o. option_map_or (λ p. unwrap_or (slice_get (sections p) counter) false) o false in
+    ap (λ (qs : List (List Instruction)). inside (slice_get qs t)) (sym e) ∙ ap inside (slice_get-map program_of m.threads t) ∙ ap (λ (o : Option ThreadState). inside (option_map program_of o)) h
+
+ready_by : (m : Machine) (ps : List (List Instruction)) (t : ℕ) (spot : Spot) (inside : Bool) (o : Option ThreadState) → slice_get m.threads t ≡ o → map program_of m.threads ≡ ps → Some spot ≡ option_map spot_of o → spot.is_waiting ≡ false
+    → inside ≡ option_map_or (λ p. unwrap_or (slice_get (sections p) spot.counter) false) (slice_get ps t) false → inside ≡ option_map_or holds o false
+unfolding holds
+ready_by m ps t spot inside None h e s w i = absurd (cc)
+ready_by m ps t spot inside (Some x) h e s w i =
+    let is : spot ≡ spot_of x = cc in
+    let waits : is_waiting x.stage ≡ false = sym (ap (λ (y : Spot). y.is_waiting) is) ∙ w in
+    let counter : spot.counter ≡ x.counter = ap (λ (y : Spot). y.counter) is in
+    i ∙ inside_is m ps t spot.counter x e h ∙ ap (λ (k : ℕ). unwrap_or (slice_get (sections x.program) k) false) counter
+    ∙ ap (λ (b : Bool). not b && unwrap_or (slice_get (sections x.program) x.counter) false) (sym waits)
+
+pub ready_holds : (m : Machine) (ps : List (List Instruction)) (t : ℕ) (spot : Spot) (inside : Bool) → map program_of m.threads ≡ ps → Some spot ≡ option_map spot_of (slice_get m.threads t) → spot.is_waiting ≡ false
+    → inside ≡ option_map_or (λ p. unwrap_or (slice_get (sections p) spot.counter) false) (slice_get ps t) false → inside ≡ option_map_or holds (slice_get m.threads t) false
+ready_holds m ps t spot inside e s w i = ready_by m ps t spot inside (slice_get m.threads t) refl e s w i
+
+waits_by : (spot : Spot) (o : Option ThreadState) → Some spot ≡ option_map spot_of o → spot.is_waiting ≡ true → not spot.is_waiting ≡ option_map_or holds o false
+unfolding holds
+waits_by spot None s w = absurd (cc)
+waits_by spot (Some x) s w =
+    let is : spot ≡ spot_of x = cc in
+    let waits : is_waiting x.stage ≡ true = sym (ap (λ (y : Spot). y.is_waiting) is) ∙ w in
+    ap not w ∙ ap (λ (b : Bool). not b && unwrap_or (slice_get (sections x.program) x.counter) false) (sym waits)
+
+pub waiting_holds : (m : Machine) (t : ℕ) (spot : Spot) → Some spot ≡ option_map spot_of (slice_get m.threads t) → spot.is_waiting ≡ true → not spot.is_waiting ≡ option_map_or holds (slice_get m.threads t) false
+waiting_holds m t spot s w = waits_by spot (slice_get m.threads t) s w
+
+-- ---- whether some thread does
+
+pub thread_count : (m : Machine) (ps : List (List Instruction)) → map program_of m.threads ≡ ps → length m.threads ≡ length ps
+thread_count m ps e = sym (length-map m.threads program_of) ∙ ap (λ qs. length qs) e
+
+pub locked : (m : Machine) (t : ℕ) → t < length m.threads → locks m t ≡ true → true ≡ is_locked m
+unfolding is_locked
+locked m t low h = sym (some_lock (locks m) (length m.threads) t low h)
+
+pub unlocked : (m : Machine) (n : ℕ) → length m.threads ≤ n → ((k : ℕ) → k < n → locks m k ≡ false) → false ≡ is_locked m
+unfolding is_locked
+unlocked m n le none = sym (no_lock (locks m) (length m.threads) (λ k low. none k (omega (arith, low, le))))

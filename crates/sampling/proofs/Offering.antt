@@ -2,7 +2,7 @@
 use Rattle.std.proofs.Common.{◌≡◌, ℕ, zero, suc, ◌+◌, ◌-◌, ◌<◌, ◌≤◌, Bool, true, false, refl, sym, ap, ◌∙◌, subst, inl, inr, arith, length, if◌then◌else◌, add-one}
 use Rattle.std.specs.Prelude.{Option, Some, None, nat_lt, ◌==◌, ◌||◌, not, slice_get}
 use Rattle.std.specs.Option.{option_map, option_map_or, option_and_then}
-use Rattle.std.proofs.lemmas.Option.{slice_get_past}
+use Rattle.std.proofs.lemmas.Option.{slice_get_past, slice_get_within}
 use Rattle.std.proofs.lemmas.Bool.{cases_lt}
 use Rattle.std.proofs.lemmas.Bool.Decides.{nat_tests}
 use Rattle.entries.specs.declared.row.Row.{Row}
@@ -66,6 +66,10 @@ threads_idle s m n le k low high f r =
     let is : f ≡ Step k = step_is s m k f (sym (offer_thread s m k high) ∙ r.offered) in
     no_thread m k (slice_get_past m.threads k (omega (arith, le, low))) (subst (λ e. refusal m e ≡ None) is r.accepted)
 
+pub offer_free : (s : Source) (m : Machine) (t : ℕ) (free : Bool) → free ≡ (s.unlocked || not (is_locked m)) → t < 16 → (if free || option_map_or holds (slice_get m.threads t) false then Some (Step t) else None) ≡ offer_of s m t
+unfolding step_offer
+offer_free s m t free e h = ap (λ (b : Bool). if b || option_map_or holds (slice_get m.threads t) false then Some (Step t) else None) e ∙ sym (offer_thread s m t h)
+
 -- ---- requests
 
 closed_phase : (s : Source) (m : Machine) (r : ℕ) (row : Row) (p : Phase) → is_unfinished p ≡ false → phase_offer s m r row p ≡ None
@@ -111,3 +115,6 @@ best_is_chosen s m b h = record {
 
 pub none_is_chosen : (s : Source) (m : Machine) → SaysBest s m 65554 None → NoneChosen s m
 none_is_chosen s m h = record { none = λ k f r. h.holds k (offered_below s m k f r.offered) f r }
+
+pub open_within : (m : Machine) (from r : ℕ) → IsNextWhere is_open m.table from r → r < length m.table
+open_within m from r next = slice_get_within m.table r next.row next.there

@@ -1,5 +1,5 @@
 -- Runs of chosen events.
-use Rattle.std.proofs.Common.{◌≡◌, ℕ, ◌<◌, ◌≤◌, List, [], ◌∷◌, ◌++◌, length, map, refl, sym, ap, ◌∙◌, subst, arith, Bool, true, false}
+use Rattle.std.proofs.Common.{◌≡◌, ℕ, ◌<◌, ◌≤◌, List, [], ◌∷◌, ◌++◌, length, map, refl, sym, ap, ◌∙◌, subst, arith, length-append, Bool, true, false}
 use Rattle.std.specs.Prelude.{None, nat_le, ◌&&◌}
 use Rattle.std.proofs.lemmas.Bool.Decides.{nat_tests}
 use Rattle.places.specs.declared.value.Change.{Change}
@@ -11,9 +11,9 @@ use Rattle.machine.specs.declared.whole.Machine.{Machine}
 use Rattle.machine.specs.Threads.{program_of, thread_start}
 use Rattle.machine.specs.Whole.{WellFormed}
 use Rattle.machine.specs.Steps.{refusal, after, Next}
-use Rattle.machine.specs.Runs.{start, run, Link, Linked}
+use Rattle.machine.specs.Runs.{start, run, Accepts, Link, Linked}
 use Rattle.machine.proofs.Growing.{grows_after}
-use Rattle.machine.proofs.LinkedRuns.{linked_runs, linked_more}
+use Rattle.machine.proofs.LinkedRuns.{linked_runs, linked_accepts, linked_more}
 use Rattle.machine.proofs.StartLemmas.{accepted}
 use Rattle.sampling.specs.declared.draws.Source.{Source}
 use Rattle.sampling.specs.Choosing.{IsChosen, NoneChosen}
@@ -64,3 +64,9 @@ run_is_full s most m es h within full = record {
 
 pub link_more : (m n : Machine) (es fs : List Event) (rs qs : List (List Change)) (e : Event) (r : List Change) (o : Machine) → Link m e r n → fs ≡ es ++ e ∷ [] → qs ≡ rs ++ r ∷ [] → Linked o es rs m → Linked o fs qs n
 link_more m n es fs rs qs e r o k f q l = rw (f, q) (linked_more o m n es rs e r l k)
+
+pub within_more : (es fs : List Event) (e : Event) (most : ℕ) → fs ≡ es ++ e ∷ [] → length es < most → length fs ≤ most
+within_more es fs e most is less = let grown = ap (λ xs. length xs) is ∙ length-append es (e ∷ []) in omega (arith, grown, less)
+
+pub accepts_from : (s m n : Machine) (es : List Event) (rs : List (List Change)) → m ≡ s → Linked m es rs n → Accepts s es
+accepts_from s m n es rs e l = subst (λ (x : Machine). Accepts x es) e (linked_accepts m n es rs l)

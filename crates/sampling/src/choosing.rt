@@ -1,12 +1,11 @@
 //! Choosing the next event of a run.
-ghost use Rattle.std.specs.Prelude.{◌≡◌, ◌<◌, ◌+◌, ◌≤◌, ◌||◌, not, IfSome, IfNone, length, map, slice_get};
-ghost use Rattle.std.specs.Option.{option_map};
+ghost use Rattle.std.specs.Prelude.{◌≡◌, ◌<◌, ◌+◌, ◌≤◌, ◌||◌, false, not, Some, None, IfSome, IfNone, map, slice_get, if◌then◌else◌};
+ghost use Rattle.std.specs.Option.{option_map, option_map_or};
 ghost use Rattle.machine.specs.Threads.{program_of};
-ghost use Rattle.machine.specs.Steps.{refusal};
-ghost use Rattle.machine.specs.Whole.{WellFormed};
+ghost use Rattle.scenario.specs.declared.event.Event.TheVariants.{Step};
 ghost use Rattle.sampling.specs.Choosing.{SaysBest, IsChosen, NoneChosen, beats, challenged};
-ghost use Rattle.sampling.specs.Locks.{is_locked};
-ghost use Rattle.sampling.specs.Offers.{rank_at, thread_position, row_position, step_offer};
+ghost use Rattle.sampling.specs.Locks.{is_locked, holds};
+ghost use Rattle.sampling.specs.Offers.{rank_at, thread_position, row_position};
 ghost use Rattle.sampling.specs.Spots.{spot_of};
 
 use crate::draws::{Source, mixed};
@@ -81,12 +80,29 @@ fn with_thread(
     if !beats(rank, best) {
         return best;
     }
-    let offer = if is_free || holds(state, program, thread, spot) {
+    let offer = step_offer(state, program, is_free, thread, spot);
+    challenged(state, rank, offer, best)
+}
+
+// Returns the next step of a thread that is there, if it needs no lock or holds it.
+fn step_offer(
+    state: &State,
+    program: &Program<'_>,
+    is_free: bool,
+    thread: u32,
+    spot: Option<Spot>,
+) -> Option<Event>
+    requires programs { map program_of state.now.threads ≡ program.now.threads }
+    requires spot { spot ≡ option_map spot_of (slice_get state.now.threads thread) }
+    ensures { result
+        ≡ (if is_free || option_map_or holds (slice_get state.now.threads thread) false
+        then Some (Step thread) else None) }
+{
+    if is_free || holds(state, program, thread, spot) {
         Some(Event::Step(thread))
     } else {
         None
-    };
-    challenged(state, rank, offer, best)
+    }
 }
 
 fn thread_position(spot: Option<Spot>) -> u64
