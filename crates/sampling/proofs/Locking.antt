@@ -1,6 +1,6 @@
 -- Locked sections of programs, and who holds the lock.
-use Rattle.std.proofs.Common.{◌≡◌, ℕ, zero, suc, ◌+◌, ◌-◌, ◌<◌, ◌≤◌, Bool, true, false, refl, sym, ap, ◌∙◌, subst, arith, List, [], ◌∷◌, ◌++◌, length, drop, map, get_or, inl, inr}
-use Rattle.std.specs.Prelude.{Option, Some, None, nat_lt, ◌||◌, ◌&&◌, not, slice_get, unwrap_or, is_none}
+use Rattle.std.proofs.Common.{◌≡◌, ℕ, zero, suc, ◌-◌, ◌<◌, ◌≤◌, Bool, true, false, refl, sym, ap, ◌∙◌, subst, arith, List, [], ◌∷◌, length, drop, map, get_or, inl, inr}
+use Rattle.std.specs.Prelude.{Option, Some, None, nat_lt, ◌||◌, ◌&&◌, not, slice_get, unwrap_or}
 use Rattle.std.specs.Option.{option_map, option_map_or}
 use Rattle.std.specs.List.{list_any}
 use Rattle.std.proofs.lemmas.Option.{slice_get-map, slice_get_read}
@@ -73,12 +73,12 @@ counter_small m t x f e =
 pub ends_here : {X : Type 0} (f : X → Bool) (xs : List X) (end k : ℕ) (x : X) → 0 < end → end ≤ length xs → x ≡ get_or xs (end - 1) x → f x ≡ true → list_any f (drop end xs) ≡ false → list_any f (drop k xs) ≡ nat_lt k end
 ends_here f xs end k x some within is here none = elim (cases_lt k end) [
   | inl low ↦
-    let at : slice_get xs (end - 1) ≡ Some x = slice_get_read xs (length xs) (end - 1) x refl (omega (arith, some, within)) is in
-    let less : nat_lt k end ≡ true = grind (arith, nat_tests) in
-    any_from f xs (end - 1) k x at here (omega (arith, low)) ∙ sym less
+      let at : slice_get xs (end - 1) ≡ Some x = slice_get_read xs (length xs) (end - 1) x refl (omega (arith, some, within)) is in
+      let less : nat_lt k end ≡ true = grind (arith, nat_tests) in
+      any_from f xs (end - 1) k x at here (omega (arith, low)) ∙ sym less
   | inr high ↦
-    let more : nat_lt k end ≡ false = grind (arith, nat_tests) in
-    none_from f xs end k none high ∙ sym more
+      let more : nat_lt k end ≡ false = grind (arith, nat_tests) in
+      none_from f xs end k none high ∙ sym more
 ]
 
 pub ends_nowhere : {X : Type 0} (f : X → Bool) (xs : List X) (end k : ℕ) → end ≡ 0 → list_any f (drop end xs) ≡ false → list_any f (drop k xs) ≡ nat_lt k 0

@@ -1,9 +1,8 @@
 -- What actors offer, by their numbers, and which have no event.
-use Rattle.std.proofs.Common.{◌≡◌, ℕ, zero, suc, ◌+◌, ◌-◌, ◌<◌, ◌≤◌, Bool, true, false, refl, sym, ap, ◌∙◌, subst, inl, inr, arith, length, if◌then◌else◌, add-one}
+use Rattle.std.proofs.Common.{◌≡◌, ℕ, ◌+◌, ◌-◌, ◌<◌, ◌≤◌, Bool, true, false, refl, sym, ap, ◌∙◌, subst, arith, length, if◌then◌else◌}
 use Rattle.std.specs.Prelude.{Option, Some, None, nat_lt, ◌==◌, ◌||◌, not, slice_get}
 use Rattle.std.specs.Option.{option_map, option_map_or, option_and_then}
 use Rattle.std.proofs.lemmas.Option.{slice_get_past, slice_get_within}
-use Rattle.std.proofs.lemmas.Bool.{cases_lt}
 use Rattle.std.proofs.lemmas.Bool.Decides.{nat_tests}
 use Rattle.entries.specs.declared.row.Row.{Row}
 use Rattle.entries.specs.declared.row.Phase.{Phase}
@@ -20,7 +19,7 @@ use Rattle.sampling.specs.declared.choosing.Best.{Best}
 use Rattle.sampling.specs.Locks.{holds, is_locked}
 use Rattle.sampling.specs.Spots.{spot_of}
 use Rattle.sampling.specs.Offers.{offer_of, rank_of, rank_at, thread_position, row_position, step_offer, row_offer, phase_offer}
-use Rattle.sampling.specs.Choosing.{IsReady, SaysBest, IsChosen, NoneChosen}
+use Rattle.sampling.specs.Choosing.{SaysBest, IsChosen, NoneChosen}
 use Rattle.sampling.proofs.Ranking.{Idle, skipped}
 use Rattle.sampling.proofs.Repeating.{offered_below}
 

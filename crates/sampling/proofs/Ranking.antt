@@ -1,6 +1,6 @@
 -- The best event of the actors below a number, and of one actor more.
-use Rattle.std.proofs.Common.{◌≡◌, ℕ, ◌+◌, ◌<◌, ◌≤◌, Bool, true, false, refl, sym, ap, ◌∙◌, subst, inl, inr, arith, below_more, if◌then◌else◌}
-use Rattle.std.specs.Prelude.{Option, Some, None, is_none, nat_lt}
+use Rattle.std.proofs.Common.{◌≡◌, ℕ, ◌+◌, ◌<◌, ◌≤◌, Bool, true, false, refl, sym, ◌∙◌, subst, inl, inr, arith, below_more, if◌then◌else◌}
+use Rattle.std.specs.Prelude.{Option, Some, None, is_none}
 use Rattle.std.proofs.lemmas.Bool.{cases_lt}
 use Rattle.std.proofs.lemmas.Bool.Decides.{nat_tests}
 use Rattle.scenario.specs.declared.event.Event.{Event}
@@ -10,7 +10,7 @@ use Rattle.machine.specs.Steps.{refusal}
 use Rattle.sampling.specs.declared.draws.Source.{Source}
 use Rattle.sampling.specs.declared.choosing.Best.{Best}
 use Rattle.sampling.specs.Offers.{offer_of, rank_of}
-use Rattle.sampling.specs.Choosing.{IsReady, IsBest, NoneReady, SaysBest, beats, challenged}
+use Rattle.sampling.specs.Choosing.{IsReady, SaysBest, beats, challenged}
 
 -- No event of the actors from n to p is accepted.
 abbrev pub Idle : Source → Machine → ℕ → ℕ → Type 0

@@ -1,19 +1,19 @@
 -- A key, a seed and a number determine a sample.
-use Rattle.std.proofs.Common.{◌≡◌, ℕ, ◌+◌, ◌-◌, ◌*◌, ◌/◌, ◌%◌, ◌^◌, ◌<◌, ◌≤◌, List, [], ◌∷◌, length, refl, sym, ap, ◌∙◌, subst, arith, inl, inr, Bool, true, false, if◌then◌else◌}
-use Rattle.std.specs.Prelude.{Option, Some, None, nat_lt, ◌==◌}
+use Rattle.std.proofs.Common.{◌≡◌, ℕ, ◌+◌, ◌-◌, ◌*◌, ◌/◌, ◌^◌, ◌<◌, List, [], ◌∷◌, length, refl, sym, ap, ◌∙◌, subst, arith, inl, inr, false}
+use Rattle.std.specs.Prelude.{Some, None, nat_lt, ◌==◌}
 use Rattle.std.proofs.lemmas.Bool.{cases_lt}
 use Rattle.std.proofs.lemmas.Bool.Decides.{nat_tests}
 use Rattle.scenario.specs.declared.event.Event.{Event}
 use Rattle.scenario.specs.declared.setup.Setup.{Setup}
 use Rattle.machine.specs.declared.whole.Machine.{Machine}
 use Rattle.machine.specs.Steps.{after}
-use Rattle.machine.specs.Runs.{start, run}
+use Rattle.machine.specs.Runs.{start}
 use Rattle.sampling.specs.declared.draws.Source.{Source}
 use Rattle.sampling.specs.declared.draws.SampleOptions.{SampleOptions}
 use Rattle.sampling.specs.Draws.{mixed, source_of}
 use Rattle.sampling.specs.Offers.{offer_of, rank_at, rank_of, position_of}
-use Rattle.sampling.specs.Choosing.{IsReady, IsChosen, NoneChosen}
-use Rattle.sampling.specs.Samples.{AllChosen, IsRun, IsSample}
+use Rattle.sampling.specs.Choosing.{IsChosen}
+use Rattle.sampling.specs.Samples.{IsRun, IsSample}
 
 -- ---- ranks differ
 

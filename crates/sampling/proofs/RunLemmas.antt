@@ -10,7 +10,7 @@ use Rattle.scenario.specs.declared.setup.Instruction.{Instruction}
 use Rattle.machine.specs.declared.whole.Machine.{Machine}
 use Rattle.machine.specs.Threads.{program_of, thread_start}
 use Rattle.machine.specs.Whole.{WellFormed}
-use Rattle.machine.specs.Steps.{refusal, after, Next}
+use Rattle.machine.specs.Steps.{after, Next}
 use Rattle.machine.specs.Runs.{start, run, Accepts, Link, Linked}
 use Rattle.machine.proofs.Growing.{grows_after}
 use Rattle.machine.proofs.LinkedRuns.{linked_runs, linked_accepts, linked_more}

@@ -1,5 +1,5 @@
 -- The random numbers of a run. Each is a pure function of the run's key.
-use Rattle.std.specs.Prelude.{ℕ, ◌+◌, ◌*◌, ◌/◌, ◌%◌, ◌^◌, ◌++◌, bit_xor, replicate, slice_index, ◌∷◌, [], Bool, if◌then◌else◌}
+use Rattle.std.specs.Prelude.{ℕ, ◌+◌, ◌*◌, ◌/◌, ◌%◌, ◌^◌, ◌++◌, bit_xor, replicate, slice_index, ◌∷◌, [], if◌then◌else◌}
 use Rattle.std.specs.Int.{w64, to_le_bytes}
 use Rattle.rand_chacha.specs.ChaCha.{key_of as words_of, word_at}
 use Rattle.sampling.specs.declared.draws.SampleOptions.{SampleOptions}

@@ -1,5 +1,4 @@
 -- Where a thread is in its program.
-use Rattle.std.specs.Prelude.{ℕ}
 use Rattle.machine.specs.Threads.{ThreadState}
 use Rattle.sampling.specs.Locks.{is_waiting}
 use Rattle.sampling.specs.declared.locks.Spot.{Spot}

@@ -1,7 +1,4 @@
-use Rattle.std.proofs.Common.{rules, ◌≡◌, ℕ, ◌-◌, ◌<◌, ◌≤◌, true, false, Some, drop, ◌∙◌, sym, inl, inr, arith}
-use Rattle.std.specs.Prelude.{nat_lt, slice_get}
-use Rattle.std.proofs.lemmas.Bool.{cases_lt}
-use Rattle.std.proofs.lemmas.Bool.Decides.{nat_tests}
+use Rattle.std.proofs.Common.{rules, ◌≡◌, true, arith}
 use Rattle.sampling.specs.Locks.{is_end}
 use Rattle.sampling.proofs.Locking.{ends_here, ends_nowhere}
 use Rattle.sampling.proofs.locks.end_of.Goals as goal

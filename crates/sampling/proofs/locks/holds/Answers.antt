@@ -1,5 +1,4 @@
 use Rattle.std.proofs.Common.{rules, ◌≡◌, true, false, ◌∙◌, sym}
-use Rattle.std.specs.Prelude.{Some}
 use Rattle.sampling.proofs.Locking.{ready_holds, waiting_holds}
 use Rattle.sampling.proofs.locks.holds.Goals as goal
 

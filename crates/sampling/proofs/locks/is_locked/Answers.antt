@@ -1,4 +1,4 @@
-use Rattle.std.proofs.Common.{rules, ◌≡◌, ◌<◌, ◌≤◌, true, length, arith}
+use Rattle.std.proofs.Common.{rules, ◌≡◌, true, arith}
 use Rattle.sampling.specs.Locks.{locks}
 use Rattle.sampling.proofs.Locking.{locked, unlocked, thread_count}
 use Rattle.sampling.proofs.locks.is_locked.Goals as goal

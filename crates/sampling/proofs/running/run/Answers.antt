@@ -1,4 +1,4 @@
-use Rattle.std.proofs.Common.{rules, ◌≡◌, ◌<◌, ◌≤◌, length, ◌∙◌, arith}
+use Rattle.std.proofs.Common.{rules, ◌<◌, length, ◌∙◌}
 use Rattle.sampling.proofs.RunLemmas.{one_chosen, run_ends, within_more}
 use Rattle.sampling.proofs.running.run.Goals as goal
 
