@@ -1,5 +1,5 @@
 -- A machine in which no offered event is accepted is over.
-use Rattle.std.proofs.Common.{◌≡◌, ℕ, zero, suc, ◌+◌, ◌-◌, ◌<◌, ◌≤◌, ◌^◌, Bool, true, false, List, [], ◌∷◌, map, refl, sym, ap, ◌∙◌, subst, inl, inr, ◌⊎◌, arith, length, take, min, if◌then◌else◌}
+use Rattle.std.proofs.Common.{◌≡◌, ℕ, zero, suc, ◌+◌, ◌-◌, ◌<◌, ◌≤◌, ◌^◌, Bool, true, false, List, [], ◌∷◌, map, refl, sym, ap, ◌∙◌, subst, inl, inr, ◌⊎◌, arith, length, min, if◌then◌else◌}
 use Rattle.std.specs.Prelude.{Option, Some, None, is_none, nat_lt, ◌==◌, ◌||◌, ◌&&◌, not, slice_get}
 use Rattle.std.specs.Option.{option_map_or, option_and_then}
 use Rattle.std.proofs.lemmas.Option.{slice_get_past, slice_get_within}
@@ -30,7 +30,7 @@ use Rattle.quiescence.proofs.InFull.{finishes_in_full}
 use Rattle.sampling.specs.declared.draws.Source.{Source}
 use Rattle.sampling.specs.Draws.{draw, mixed, below, source_of}
 use Rattle.sampling.specs.Locks.{holds, locks, any_below, is_locked}
-use Rattle.sampling.specs.Offers.{if_ahead, offer_of, step_offer, take_of, take_or_one, awake_offer, poller_offer_by, poller_offer, drawn_choice, finish_offer, phase_offer, row_offer, smaller_of, least_value, least_ahead, tick_to, clock_offer}
+use Rattle.sampling.specs.Offers.{if_ahead, offer_of, step_offer, take_of, awake_offer, poller_offer_by, poller_offer, drawn_choice, finish_offer, phase_offer, row_offer, smaller_of, least_value, least_ahead, tick_to, clock_offer}
 use Rattle.sampling.specs.Choosing.{NoneChosen}
 use Rattle.sampling.specs.Samples.{AllChosen, IsSample}
 use Rattle.sampling.specs.declared.draws.SampleOptions.{SampleOptions}
