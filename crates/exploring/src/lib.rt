@@ -10,4 +10,4 @@ mod search;
 pub use experiment::Experiment;
 pub use lanes::Lane;
 pub use outcome::{Outcome, Totals};
-pub use search::{Report, explore_round};
+pub use search::{Report, explore, explore_round};

@@ -1,5 +1,4 @@
-use Rattle.exploring.proofs.Joining.{quiet_more, quiet_none, first_found}
-use Rattle.std.proofs.Common.{arith}
+use Rattle.exploring.proofs.Joining.{quiet_more}
 use Rattle.exploring.proofs.lanes.first_shown.Goals as goal
 
 pub loop-number-preserved : goal.loop-number-preserved
