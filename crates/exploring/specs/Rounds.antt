@@ -1,8 +1,6 @@
 -- Rounds: each worker has a part of the numbers.
-use Rattle.std.specs.Prelude.{◌≡◌, ℕ, ◌+◌, ◌*◌, min, Result, Option, IfOk, OnOk}
-use Rattle.std.specs.declared.alloc.AllocError.{AllocError}
+use Rattle.std.specs.Prelude.{ℕ, ◌+◌, ◌*◌, min, IfOk, OnOk}
 use Rattle.exploring.specs.declared.outcome.Outcome.{Outcome}
-use Rattle.exploring.specs.declared.outcome.Totals.{Totals}
 use Rattle.exploring.specs.declared.lanes.Lane.{Lane}
 use Rattle.exploring.specs.Trials.{Reports}
 

@@ -1,4 +1,4 @@
-use Rattle.std.proofs.Common.{ℕ, ◌<◌, ◌≤◌, ◌+◌, ◌-◌, ◌≡◌, All, length}
+use Rattle.std.proofs.Common.{◌≤◌, ◌+◌, ◌-◌, All}
 use Rattle.exploring.specs.Trials.{IsOutcome, IsQuiet}
 use Rattle.exploring.proofs.search.explore.Given as goal
 

@@ -1,4 +1,4 @@
-use Rattle.std.proofs.Common.{arith, sym}
+use Rattle.std.proofs.Common.{arith}
 use Rattle.exploring.proofs.Joining.{found_at, quiet_of, lanes_join, lane_reports, each_more}
 use Rattle.exploring.specs.Trials.{IsOutcome}
 use Rattle.exploring.proofs.search.explore_round.Goals as goal
