@@ -131,8 +131,8 @@ canceled_changes row = and_right (not (is_guard row)) _ (not_completed row (is_e
 
 -- ---- circumstances
 
-abbrev all_told : Bool → Bool → Bool → Bool → Circumstances
-all_told a b c d = record { short_of_end = a; severs_others = b; is_named = c; was_ready = d }
+abbrev circumstances_from : Bool → Bool → Bool → Bool → Circumstances
+circumstances_from a b c d = record { short_of_end = a; severs_others = b; is_named = c; was_ready = d }
 
 -- ---- chains
 
@@ -226,8 +226,8 @@ noted_circumstances s before e next_state cs r row x once chained k =
     let ready = is_expiry_of r e && (expires_over_ready before e && has_canceled_target next_state.table row) in
     let over = expires_over next_state.table e r in
     let named = (not (row.unit == r) && is_severed_in (severing_in next_state cs) (canceled_in next_state cs) (member_of r row)) || over in
-    ap (λ (b : Bool). all_told (is_short_of_end s next_state row) b named ready) (others_noted before next_state cs x once chained r row k)
-    ∙ ap (λ (b : Bool). all_told (is_short_of_end s next_state row) (severs_others before.table next_state.table (member_of r row)) (b || over) ready) (severed_noted before next_state cs x once chained r row)
+    ap (λ (b : Bool). circumstances_from (is_short_of_end s next_state row) b named ready) (others_noted before next_state cs x once chained r row k)
+    ∙ ap (λ (b : Bool). circumstances_from (is_short_of_end s next_state row) (severs_others before.table next_state.table (member_of r row)) (b || over) ready) (severed_noted before next_state cs x once chained r row)
 
 -- ---- findings
 

@@ -116,7 +116,7 @@ fn reported_as(condition: Condition, over: bool) -> Option<LastingKind>
 {
     match (condition, over) {
         (Condition::Waits, _) => Some(LastingKind::Waits(fault_if(over))),
-        (Condition::LostWakeUp, _) => Some(LastingKind::LostWakeUp),
+        (Condition::LostWakeUp, _) => Some(LastingKind::LostWakeUp(fault_if(over))),
         (Condition::NotTaken, _) => Some(LastingKind::NotTaken(fault_if(over))),
         (Condition::NotReaped, _) => Some(LastingKind::NotReaped),
         (Condition::Stuck, true) => Some(LastingKind::Stuck),
