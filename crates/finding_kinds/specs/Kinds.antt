@@ -5,7 +5,7 @@ use Rattle.finding_kinds.specs.declared.kind.Kind.TheVariants.{Ended, Lasting, L
 use Rattle.finding_kinds.specs.declared.kind.Verdict.{Verdict}
 use Rattle.finding_kinds.specs.declared.kind.Verdict.TheVariants.{Fault, Note}
 use Rattle.finding_kinds.specs.declared.kind.EndedKind.TheVariants.{Short, Canceled, TimedOut, Expired, NotFound, TooLate, WentOn}
-use Rattle.finding_kinds.specs.declared.kind.LastingKind.TheVariants.{Waits, NotTaken, NotReaped, Stuck}
+use Rattle.finding_kinds.specs.declared.kind.LastingKind.TheVariants.{Waits, LostWakeUp, NotTaken, NotReaped, Stuck}
 use Rattle.finding_kinds.specs.declared.kind.LeftKind.TheVariants.{Unfinished, NotDurable}
 use Rattle.finding_kinds.specs.declared.kind.ConflictKind.TheVariants.{BufferInUse, FsyncEarly}
 use Rattle.finding_kinds.specs.declared.kind.StepKind.TheVariants.{ClosedWhileHeld}
@@ -27,6 +27,7 @@ is_fault (Ended NotFound) = false
 is_fault (Ended TooLate) = false
 is_fault (Ended WentOn) = false
 is_fault (Lasting (Waits verdict)) = is_bad verdict
+is_fault (Lasting (LostWakeUp verdict)) = is_bad verdict
 is_fault (Lasting (NotTaken verdict)) = is_bad verdict
 is_fault (Lasting NotReaped) = false
 is_fault (Left (Unfinished verdict)) = is_bad verdict
@@ -63,6 +64,7 @@ abbrev pub first_named : Kind → Kind
 first_named (Ended (Short verdict)) = Ended (Short Fault)
 first_named (Ended (TimedOut verdict)) = Ended (TimedOut Fault)
 first_named (Lasting (Waits verdict)) = Lasting (Waits Fault)
+first_named (Lasting (LostWakeUp verdict)) = Lasting (LostWakeUp Fault)
 first_named (Lasting (NotTaken verdict)) = Lasting (NotTaken Fault)
 first_named (Left (Unfinished verdict)) = Left (Unfinished Fault)
 first_named (Left (NotDurable verdict)) = Left (NotDurable Fault)

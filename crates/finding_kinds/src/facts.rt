@@ -66,7 +66,7 @@ impl LastingKind {
     {
         match self {
             LastingKind::Waits(verdict) => judged("waits", verdict),
-            LastingKind::LostWakeUp => fault("lost-wake-up"),
+            LastingKind::LostWakeUp(verdict) => judged("lost-wake-up", verdict),
             LastingKind::NotTaken(verdict) => judged("not-taken", verdict),
             LastingKind::NotReaped => note("not-reaped"),
             LastingKind::Stuck => fault("stuck"),

@@ -81,8 +81,8 @@ impl EndedKind {
 pub enum LastingKind {
     /// A thread waits in its enter. It is a note if the run was cut off.
     Waits(Verdict),
-    /// Entries wait while the poller sleeps.
-    LostWakeUp,
+    /// Entries wait while the poller sleeps. It is a note if the run was cut off.
+    LostWakeUp(Verdict),
     /// Entries wait though no poller sleeps. It is a note if the run was cut off.
     NotTaken(Verdict),
     /// Completions remain in the ring or in the backlog.
@@ -93,10 +93,11 @@ pub enum LastingKind {
 
 impl LastingKind {
     /// All kinds of the group, in order.
-    pub const ALL: [LastingKind; 7] = [
+    pub const ALL: [LastingKind; 8] = [
         LastingKind::Waits(Verdict::Fault),
         LastingKind::Waits(Verdict::Note),
-        LastingKind::LostWakeUp,
+        LastingKind::LostWakeUp(Verdict::Fault),
+        LastingKind::LostWakeUp(Verdict::Note),
         LastingKind::NotTaken(Verdict::Fault),
         LastingKind::NotTaken(Verdict::Note),
         LastingKind::NotReaped,

@@ -43,6 +43,9 @@ impl Kind {
             Kind::Lasting(LastingKind::Waits(_)) => {
                 Kind::Lasting(LastingKind::Waits(Verdict::Fault))
             }
+            Kind::Lasting(LastingKind::LostWakeUp(_)) => {
+                Kind::Lasting(LastingKind::LostWakeUp(Verdict::Fault))
+            }
             Kind::Lasting(LastingKind::NotTaken(_)) => {
                 Kind::Lasting(LastingKind::NotTaken(Verdict::Fault))
             }

@@ -21,7 +21,6 @@ use Rattle.finding_kinds.specs.declared.finding.Finding.{Finding}
 use Rattle.finding_kinds.specs.declared.kind.Kind.{Kind}
 use Rattle.finding_kinds.specs.declared.kind.Kind.TheVariants.{Ended, Overflow, Conflict, Step, Queued, Cancel, TimespecInUse}
 use Rattle.finding_kinds.specs.Programs.{instruction_at}
-use Rattle.findings.specs.declared.completed.Member.{Member}
 use Rattle.findings.specs.declared.conditions.Before.{Before}
 use Rattle.findings.specs.declared.writes.Written.{Written}
 use Rattle.findings.specs.declared.watching.Watch.{Watch}
@@ -31,7 +30,7 @@ use Rattle.findings.specs.Conditions.{overflows}
 use Rattle.findings.specs.Conflicts.{done_as, done_at}
 use Rattle.findings.specs.Durability.{completed_by}
 use Rattle.findings.specs.Findings.{EndsOver, occurs, occurs_at, is_lost, judged_kind, Lasts, IsLeft, Retries, IsFinding, IsReportOf, Rises}
-use Rattle.findings.specs.Records.{members_of, severs_chain, cancels_at, noted, of_change, of_overflow, of_step, of_cancel, of_event, of_effect, after_notes, Covers, Adds, FoundBefore, RetriedBefore, IsLasting, AreLeft, IsAll, judged, all_at_end, SameFindings}
+use Rattle.findings.specs.Records.{noted_by, of_change, of_overflow, of_step, of_cancel, of_event, of_effect, after_notes, Covers, Adds, FoundBefore, RetriedBefore, IsLasting, AreLeft, IsAll, judged, all_at_end, SameFindings}
 use Rattle.findings.specs.Searching.{facts_before, NotesFacts, HasSearched}
 use Rattle.findings.specs.Suspects.{Follows, FollowsFiles, Judges}
 use Rattle.findings.specs.Watched.{advanced, watched, of_lasting}
@@ -160,11 +159,11 @@ added_by s i circumstances_of b e n past fs now =
     ++ of_effect i s n (done_as e (instruction_at s e b.counter) n) now
 
 -- After one more event.
-pub seen_more : (s : Setup) (es : List Event) (i : ℕ) (n : Machine) (e : Event) (b : Before) (past : List Change) (severing canceled : List Member) (fs gs : List Finding) (numbers now : List ℕ) (ws xs : List Watch) (writes : List Written) (sets : List (List ℕ)) (retried : List Finding) (writes_now : List Written) (sets_now : List (List ℕ)) (retried_now : List Finding)
-    → HasSearched s es i fs numbers ws writes sets retried → NotesFacts s es i b → IsAfter s es i e past n → WellFormed n → severing ≡ flat_map (members_of (severs_chain n.table) n.table) past → canceled ≡ flat_map (members_of cancels_at n.table) past
-    → gs ≡ added_by s i (noted s severing canceled b e n) b e n past fs now → NamesOnce past → now ≡ after_notes (view n) numbers past
+pub seen_more : (s : Setup) (es : List Event) (i : ℕ) (n : Machine) (e : Event) (b : Before) (past : List Change) (fs gs : List Finding) (numbers now : List ℕ) (ws xs : List Watch) (writes : List Written) (sets : List (List ℕ)) (retried : List Finding) (writes_now : List Written) (sets_now : List (List ℕ)) (retried_now : List Finding)
+    → HasSearched s es i fs numbers ws writes sets retried → NotesFacts s es i b → IsAfter s es i e past n → WellFormed n
+    → gs ≡ added_by s i (noted_by s past b e n) b e n past fs now → NamesOnce past → now ≡ after_notes (view n) numbers past
     → xs ≡ map (advanced s n (i + 1)) ws → Follows s i n (completed_by e n) writes writes_now sets sets_now retried retried_now → HasSearched s es (i + 1) gs now xs writes_now sets_now retried_now
-seen_more s es i n e b past severing canceled fs gs numbers now ws xs writes sets retried writes_now sets_now retried_now h facts at formed severing_is canceled_is added once further w step = record {
+seen_more s es i n e b past fs gs numbers now ws xs writes sets retried writes_now sets_now retried_now h facts at formed added once further w step = record {
   most = h.most;
   found = found_more s es i e fs gs numbers now at.there h.found (subst (λ (x : Machine). Covers x.table now) next_state covered) (subst (λ (x : Machine). Adds s i (machine_at s es i) e x fs gs numbers now) next_state adds);
   covered = subst (λ (x : Machine). Covers x.table now) at.at.here covered;
@@ -182,14 +181,12 @@ seen_more s es i n e b past severing canceled fs gs numbers now ws xs writes set
     same_facts : facts_before s (machine_at s es i) e ≡ b
     same_facts = facts_are s es i e b at.there facts
 
-    circumstances_of : (r : ℕ) (row : Row) → slice_get n.table r ≡ Some row → noted s severing canceled (facts_before s (machine_at s es i) e) e n r row ≡ circumstances s (machine_at s es i) e n r row
+    circumstances_of : (r : ℕ) (row : Row) → slice_get n.table r ≡ Some row → noted_by s past (facts_before s (machine_at s es i) e) e n r row ≡ circumstances s (machine_at s es i) e n r row
     circumstances_of r row k =
-        ap (λ (ms : List Member). noted s ms canceled (facts_before s (machine_at s es i) e) e n r row) severing_is
-        ∙ ap (λ (ms : List Member). noted s (flat_map (members_of (severs_chain n.table) n.table) past) ms (facts_before s (machine_at s es i) e) e n r row) canceled_is
-        ∙ noted_circumstances s (machine_at s es i) e n past r row at.exact once formed.mostly.table.chained k
+        noted_circumstances s (machine_at s es i) e n past r row at.exact once formed.mostly.table.chained k
 
-    rows_same : flat_map (of_change i (noted s severing canceled (facts_before s (machine_at s es i) e) e n) n.table) past ≡ flat_map (of_change i (circumstances s (machine_at s es i) e n) n.table) past
-    rows_same = changes_alike i (noted s severing canceled (facts_before s (machine_at s es i) e) e n) (circumstances s (machine_at s es i) e n) n.table circumstances_of past
+    rows_same : flat_map (of_change i (noted_by s past (facts_before s (machine_at s es i) e) e n) n.table) past ≡ flat_map (of_change i (circumstances s (machine_at s es i) e n) n.table) past
+    rows_same = changes_alike i (noted_by s past (facts_before s (machine_at s es i) e) e n) (circumstances s (machine_at s es i) e n) n.table circumstances_of past
 
     covered : Covers n.table now
     covered = covers_more (machine_at s es i) n past numbers now h.covered at.exact further
@@ -200,7 +197,7 @@ seen_more s es i n e b past severing canceled fs gs numbers now ws xs writes set
       exact = at.exact;
       once = once;
       added =
-          added ∙ ap (λ (x : Before). added_by s i (noted s severing canceled x e n) x e n past fs now) (sym same_facts)
+          added ∙ ap (λ (x : Before). added_by s i (noted_by s past x e n) x e n past fs now) (sym same_facts)
           ∙ ap (λ (ys : List Finding). ((fs ++ ys) ++ of_event s i (machine_at s es i) e n) ++ of_effect i s n (done_at s (machine_at s es i) e n) now) rows_same;
       further = further;
     }

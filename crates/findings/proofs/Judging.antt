@@ -21,7 +21,7 @@ use Rattle.findings.specs.Records.{judged}
 use Rattle.findings.specs.Suspects.{is_marked, is_early, has_early, Judges, FollowsFiles}
 use Rattle.findings.specs.Watched.{numbers_below}
 use Rattle.findings.proofs.Lasting.{below_there}
-use Rattle.findings.proofs.Marks.{marked_in, tells_none}
+use Rattle.findings.proofs.Marks.{marked_in, says_of_none}
 use Rattle.findings.proofs.Members.{Has}
 use Rattle.findings.proofs.Suspecting.{writes_below}
 
@@ -71,7 +71,7 @@ byte_in_set sets w words e = any_alike (λ (k : ℕ). has words (w.first + k)) (
     (λ k. sym (marked_in sets w.file (w.first + k) words e))
 
 pub byte_in_none : (sets : List (List ℕ)) (w : Written) → slice_get sets w.file ≡ None → false ≡ has_byte (is_marked sets) w
-byte_in_none sets w e = sym (none_below (λ (k : ℕ). is_marked sets w.file (w.first + k)) w.count (λ k l. tells_none sets w.file e (w.first + k)))
+byte_in_none sets w e = sym (none_below (λ (k : ℕ). is_marked sets w.file (w.first + k)) w.count (λ k l. says_of_none sets w.file e (w.first + k)))
 
 byte_of_alike : (test other : ℕ → ℕ → Bool) (n q : ℕ) (ws : List Written) → ((o k : ℕ) → o < n → test o k ≡ other o k) → All (λ (w : Written). w.file < n) ws → has_byte_of test ws q ≡ has_byte_of other ws q
 byte_of_alike test other n q [] h l = refl

@@ -3,7 +3,7 @@ use Rattle.std.proofs.Common.{◌≡◌, inl, inr, ℕ, zero, suc, ◌+◌, ◌-
 use Rattle.std.proofs.Math.Seq.{take-append_seam}
 use Rattle.std.proofs.lemmas.List.{length-map}
 use Rattle.std.proofs.lemmas.Bool.{cases_lt, cases_order, and_parts, ltb-true, eqb-true}
-use Rattle.std.proofs.lemmas.List.Elements.{All-nil, All-cons, All-append}
+use Rattle.std.proofs.lemmas.List.Elements.{All-nil, All-cons, All-append, All-contains, Contains-get_or}
 use Rattle.std.specs.Prelude.{Option, Some, None}
 use Rattle.std.specs.List.{All, flat_map}
 use Rattle.scenario.specs.declared.event.Event.{Event}
@@ -15,13 +15,14 @@ use Rattle.finding_kinds.specs.declared.kind.Kind.TheVariants.{Lasting}
 use Rattle.finding_kinds.specs.declared.kind.LastingKind.{LastingKind}
 use Rattle.findings.specs.declared.conditions.Condition.{Condition}
 use Rattle.findings.specs.declared.conditions.Condition.TheVariants.{Waits, LostWakeUp, NotTaken, NotReaped, Stuck}
+use Rattle.findings.specs.declared.conditions.Next.{Next}
 use Rattle.findings.specs.declared.watching.Watch.{Watch}
 use Rattle.findings.specs.AtEnd.{reported_as}
 use Rattle.findings.specs.Conditions.{condition_holds, Began}
 use Rattle.findings.specs.Findings.{EndsOver, condition_holds_at, LastsSince, Lasts}
 use Rattle.findings.specs.Records.{IsLasting}
 use Rattle.findings.specs.Searching.{since_of, watch_at}
-use Rattle.findings.specs.Watched.{continued, advanced, fresh, numbers_below, of_threads, watched, of_kind, of_watch, of_lasting}
+use Rattle.findings.specs.Watched.{next_of, moved_by, next_after, AreNext, continued, advanced, fresh, numbers_below, of_threads, watched, of_kind, of_watch, of_lasting}
 use Rattle.findings.proofs.Groups.{the_finding}
 use Rattle.findings.proofs.Members.{Has, has_left, has_right, has_flat_map, has_contains}
 
@@ -149,6 +150,14 @@ mapped_step f xs ys i d r l h e =
     let up : suc i ≡ i + 1 = omega arith in
     let read : r ≡ f (get_or xs i d) = e ∙ ap (λ zs. f (get_or zs i d)) h ∙ ap f (mapped_read f xs i d l) in
     ap (λ zs. set zs i r) h ∙ ap (λ z. set (map f (take i xs) ++ drop i xs) i z) read ∙ mapped_more f xs i d l ∙ ap (λ (k : ℕ). map f (take k xs) ++ drop k xs) up
+
+-- What the thread of an element that isn't updated does next.
+pub mapped_right : (s : Setup) (e : Event) (m : Machine) (moment : ℕ) (xs ys : List Watch) (i : ℕ) (d : Watch) (moved : Option (ℕ × Next)) → i < length xs → ys ≡ map (advanced s m moment) (take i xs) ++ drop i xs → moved ≡ moved_by s e m → AreNext s e m xs
+    → next_after moved (get_or ys i d) ≡ next_of s m (get_or ys i d).subject
+mapped_right s e m moment xs ys i d moved l h same all =
+    let there : next_after (moved_by s e m) (get_or xs i d) ≡ next_of s m (get_or xs i d).subject = All-contains (λ (w : Watch). next_after (moved_by s e m) w ≡ next_of s m w.subject) xs (get_or xs i d) all (Contains-get_or xs i d l) in
+    subst (λ (w : Watch). next_after moved w ≡ next_of s m w.subject) (sym (ap (λ zs. get_or zs i d) h ∙ mapped_read (advanced s m moment) xs i d l))
+    (subst (λ (o : Option (ℕ × Next)). next_after o (get_or xs i d) ≡ next_of s m (get_or xs i d).subject) (sym same) there)
 
 -- A slice that was mapped in place, written back to its vector.
 pub mapped_back : {X : Type 0} (f : X → X) (xs old new rest : List X) (n : ℕ) → old ≡ xs → new ≡ map f old → n ≡ length old → take n (new ++ rest) ≡ map f xs

@@ -1,5 +1,6 @@
 pub mod Members
 pub mod Groups
+pub mod Plain
 pub mod Same
 pub mod Notes
 pub mod Shown
@@ -17,8 +18,9 @@ pub mod Lasting
 pub mod Left
 pub mod Alike
 pub mod Durability
-pub mod Blocked
 pub mod StuckSteps
+pub mod OtherThreads
+pub mod NextSteps
 pub mod Threads
 pub mod Marks
 pub mod Suspecting

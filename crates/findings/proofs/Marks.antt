@@ -15,7 +15,7 @@ use Rattle.finding_kinds.specs.Values.{byte_in, differ}
 use Rattle.findings.specs.declared.writes.Fsync.{Fsync}
 use Rattle.findings.specs.declared.writes.Written.{Written}
 use Rattle.findings.specs.Durability.{is_within, moves}
-use Rattle.findings.specs.Suspects.{is_marked, is_fsync_of, TellsMarked}
+use Rattle.findings.specs.Suspects.{is_marked, is_fsync_of, SaysMarked}
 
 false_true : false ≡ true → ⊥
 false_true e = cc
@@ -79,12 +79,12 @@ marked_empty sets now words n count h none e =
     let more = marked_more sets now words [] n (λ (o k : ℕ). false) count (λ o k l. h o k) refl (λ k. ap (λ (xs : List ℕ). has xs k) none ∙ or_false (has [] k) false refl) e in
     (more.0, λ o k. elim (cases_lt o (n + 1)) [ inl l ↦ more.1 o k l | inr past ↦ marked_past now o k (let len : length now ≡ n + 1 = more.0 in omega (arith, len, past)) ])
 
-pub tells_in : (test : Bool) (sets : List (List ℕ)) (o : ℕ) (words : List ℕ) → slice_get sets o ≡ Some words → MatchBool test ((k : ℕ) × (has words k ≡ true)) ((k : ℕ) → has words k ≡ false) → TellsMarked test sets o
-tells_in true sets o words e h = (h.0, marked_in sets o h.0 words e ∙ h.1)
-tells_in false sets o words e h = λ k. marked_in sets o k words e ∙ h k
+pub says_of_set : (test : Bool) (sets : List (List ℕ)) (o : ℕ) (words : List ℕ) → slice_get sets o ≡ Some words → MatchBool test ((k : ℕ) × (has words k ≡ true)) ((k : ℕ) → has words k ≡ false) → SaysMarked test sets o
+says_of_set true sets o words e h = (h.0, marked_in sets o h.0 words e ∙ h.1)
+says_of_set false sets o words e h = λ k. marked_in sets o k words e ∙ h k
 
-pub tells_none : (sets : List (List ℕ)) (o : ℕ) → slice_get sets o ≡ None → TellsMarked false sets o
-tells_none sets o e = λ k. ap (λ (x : Option (List ℕ)). option_map_or (λ (words : List ℕ). has words k) x false) e
+pub says_of_none : (sets : List (List ℕ)) (o : ℕ) → slice_get sets o ≡ None → SaysMarked false sets o
+says_of_none sets o e = λ k. ap (λ (x : Option (List ℕ)). option_map_or (λ (words : List ℕ). has words k) x false) e
 
 -- ---- changes of one set
 
@@ -224,8 +224,8 @@ members_less old new byte (suc n) l there h = elim (cases_eq n byte) [
 -- ---- adding numbers that pass a test
 
 -- Whether byte k of file o is after its durable contents, or differs from its durable value.
-abbrev pub is_behind : Machine → ℕ → ℕ → ℕ → Bool
-is_behind m o durable k = nat_le durable k || differ (byte_in (view m (FileByte o k))) (byte_in (view m (DurableByte o k)))
+abbrev pub is_volatile_byte : Machine → ℕ → ℕ → ℕ → Bool
+is_volatile_byte m o durable k = nat_le durable k || differ (byte_in (view m (FileByte o k))) (byte_in (view m (DurableByte o k)))
 
 not_below : (k : ℕ) → nat_lt k 0 ≡ false
 not_below k = grind (arith, nat_tests)

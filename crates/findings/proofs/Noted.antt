@@ -2,7 +2,7 @@
 use Rattle.std.proofs.Common.{◌≡◌, ◌⊎◌, inl, inr, ℕ, ◌+◌, ◌<◌, ◌≤◌, Bool, true, false, cond, List, [], ◌∷◌, ◌++◌, refl, sym, ap, ◌∙◌, subst, arith}
 use Rattle.std.proofs.lemmas.Bool.{and_parts, and_from, and_left, and_right, or_left, or_right, or_cases, false_from_ne_true, true_from_ne_false, cases_lt, ltb-true, eqb-true, eq-eqb}
 use Rattle.std.proofs.lemmas.List.Folds.{list_any-append}
-use Rattle.std.specs.Prelude.{Option, Some, None, option_map, slice_get, nat_lt, ◌==◌, ◌&&◌, ◌||◌, not}
+use Rattle.std.specs.Prelude.{ℤ, Option, Some, None, Result, Ok, Err, OnOk, option_map, slice_get, nat_lt, ◌==◌, ◌&&◌, ◌||◌, not}
 use Rattle.std.specs.Option.{option_map_or}
 use Rattle.std.specs.List.{list_any, flat_map, enumerate_from}
 use Rattle.entries.specs.declared.row.Row.{Row}
@@ -19,13 +19,23 @@ use Rattle.scenario.specs.declared.event.Event.{Event}
 use Rattle.scenario.specs.declared.setup.Setup.{Setup}
 use Rattle.machine.specs.declared.whole.Machine.{Machine}
 use Rattle.machine.specs.Whole.{view}
+use Rattle.timeouts_cancel.specs.Cascades.{is_transfer}
 use Rattle.finding_kinds.specs.declared.finding.Finding.{Finding}
+use Rattle.finding_kinds.specs.declared.kind.Kind.{Kind}
+use Rattle.finding_kinds.specs.declared.kind.Kind.TheVariants.{Ended}
+use Rattle.finding_kinds.specs.declared.kind.EndedKind.{EndedKind}
+use Rattle.finding_kinds.specs.declared.kind.EndedKind.TheVariants.{Failed, Short, Severed, Canceled, TimedOut, Expired, NotFound, TooLate, WentOn}
+use Rattle.finding_kinds.specs.declared.kind.TheConstants.EndedKind.{ALL as ended_kinds}
+use Rattle.findings.specs.declared.completed.Completed.{Completed}
+use Rattle.findings.specs.declared.conditions.Before.{Before}
 use Rattle.findings.specs.declared.completed.Member.{Member}
-use Rattle.findings.specs.Endings.{Circumstances, ending_of, is_error, severs}
+use Rattle.findings.specs.Endings.{Circumstances, ending_of, ended_test, is_error, is_less, is_of, is_verdict, next_in, severs}
+use Rattle.findings.specs.Given.{given}
 use Rattle.findings.specs.Completions.{is_short_of_end, is_severing, cancels, is_later, member_of, any_passes, severs_others, is_severed, is_expiry_of, expires_over, expires_over_ready, has_canceled_target, circumstances}
-use Rattle.findings.specs.Records.{row_in, of_place, of_change, of_row, member_if, members_at, members_of, continues, severs_chain, cancels_at, is_severed_in, noted}
+use Rattle.findings.specs.Records.{row_in, of_group, of_queued, of_place, of_change, of_row, member_if, members_at, members_of, continues, severs_chain, cancels_at, severing_in, canceled_in, depends_on_others, IsListed, is_severed_in, noted, noted_by}
 use Rattle.findings.specs.Searching.{facts_before}
 use Rattle.findings.proofs.Draining.{none_past}
+use Rattle.findings.proofs.Groups.{the_finding}
 use Rattle.findings.proofs.Members.{Has, has_flat_map, none_after}
 use Rattle.findings.proofs.Notes.{AreTrue, true_notes}
 use Rattle.findings.proofs.Shown.{NeedsChange, not_completed, passes_named, row_in_requested}
@@ -131,8 +141,8 @@ canceled_changes row = and_right (not (is_guard row)) _ (not_completed row (is_e
 
 -- ---- circumstances
 
-abbrev all_told : Bool → Bool → Bool → Bool → Circumstances
-all_told a b c d = record { short_of_end = a; severs_others = b; is_named = c; was_ready = d }
+abbrev circumstances_from : Bool → Bool → Bool → Bool → Circumstances
+circumstances_from a b c d = record { short_of_end = a; severs_others = b; is_named = c; was_ready = d }
 
 -- ---- chains
 
@@ -159,13 +169,6 @@ later_continues rows r q row x chained there k l same other = by (option_map_or 
 -- Whether request z severed x's chain before x.
 abbrev severs_earlier : List Row → List Row → Member → Member → Bool
 severs_earlier was rows x z = is_later z x && severs_others was rows z
-
--- The lists that the record of an event gives.
-abbrev severing_in : Machine → List Change → List Member
-severing_in next_state cs = flat_map (members_of (severs_chain next_state.table) next_state.table) cs
-
-abbrev canceled_in : Machine → List Change → List Member
-canceled_in next_state cs = flat_map (members_of cancels_at next_state.table) cs
 
 module _ (before next_state : Machine) (cs : List Change) (x : Exact (view before) (view next_state) cs) (once : NamesOnce cs) (chained : Chained next_state.table) where
   others_severed : (y : Member) → list_any (is_later y) (canceled_in next_state cs) ≡ severs_others before.table next_state.table y
@@ -221,13 +224,70 @@ module _ (before next_state : Machine) (cs : List Change) (x : Exact (view befor
 
 -- What is noted of an event is its circumstances.
 pub noted_circumstances : (s : Setup) (before : Machine) (e : Event) (next_state : Machine) (cs : List Change) (r : ℕ) (row : Row) → Exact (view before) (view next_state) cs → NamesOnce cs → Chained next_state.table → slice_get next_state.table r ≡ Some row
-    → noted s (severing_in next_state cs) (canceled_in next_state cs) (facts_before s before e) e next_state r row ≡ circumstances s before e next_state r row
+    → noted_by s cs (facts_before s before e) e next_state r row ≡ circumstances s before e next_state r row
 noted_circumstances s before e next_state cs r row x once chained k =
     let ready = is_expiry_of r e && (expires_over_ready before e && has_canceled_target next_state.table row) in
     let over = expires_over next_state.table e r in
     let named = (not (row.unit == r) && is_severed_in (severing_in next_state cs) (canceled_in next_state cs) (member_of r row)) || over in
-    ap (λ (b : Bool). all_told (is_short_of_end s next_state row) b named ready) (others_noted before next_state cs x once chained r row k)
-    ∙ ap (λ (b : Bool). all_told (is_short_of_end s next_state row) (severs_others before.table next_state.table (member_of r row)) (b || over) ready) (severed_noted before next_state cs x once chained r row)
+    ap (λ (b : Bool). circumstances_from (is_short_of_end s next_state row) b named ready) (others_noted before next_state cs x once chained r row k)
+    ∙ ap (λ (b : Bool). circumstances_from (is_short_of_end s next_state row) (severs_others before.table next_state.table (member_of r row)) (b || over) ready) (severed_noted before next_state cs x once chained r row)
+
+-- ---- lists that aren't needed
+
+neither : (a b : Bool) → (a || b) ≡ false → (a ≡ false) × (b ≡ false)
+neither true b h = absurd (false_true (sym h))
+neither false b h = (refl, h)
+
+-- Equal tests give equal findings.
+group_alike : {K : Type 0} (whole : K → Kind) (f g : K → Bool) (i n : ℕ) → ((kind : K) → f kind ≡ g kind) → (kinds : List K) → of_group whole f i n kinds ≡ of_group whole g i n kinds
+group_alike whole f g i n h [] = refl
+group_alike whole f g i n h (kind ∷ kinds) =
+    ap (λ (b : Bool). given b (the_finding i (whole kind) n) ++ of_group whole f i n kinds) (h kind) ∙ ap (λ (fs : List Finding). given (g kind) (the_finding i (whole kind) n) ++ fs) (group_alike whole f g i n h kinds)
+
+-- Of a request that wasn't canceled and severs no chain, the findings don't depend on others.
+module _ (c d : Circumstances) (short : c.short_of_end ≡ d.short_of_end) (ready : c.was_ready ≡ d.was_ready) (before : Option Row) (rows : List Row) (r : ℕ) (row : Row) where
+  test_alike : (o : Option ℤ) → option_map_or (λ (res : ℤ). is_error 125 res || severs before row res) o false ≡ false → (kind : EndedKind) → option_map_or (is_of kind c before row (next_in rows r)) o false ≡ option_map_or (is_of kind d before row (next_in rows r)) o false
+  test_alike None h kind = refl
+  test_alike (Some res) h Failed = refl
+  test_alike (Some res) h (Short verdict) = ap (λ (b : Bool). (is_transfer row.entry.opcode && is_less res row.entry.len) && is_verdict verdict b) short
+  test_alike (Some res) h Severed =
+      let none = (neither (is_error 125 res) (severs before row res) h).1 in
+      ap (λ (b : Bool). b && c.severs_others) none ∙ sym (ap (λ (b : Bool). b && d.severs_others) none)
+  test_alike (Some res) h Canceled =
+      let none = (neither (is_error 125 res) (severs before row res) h).0 in
+      ap (λ (b : Bool). b && not c.is_named) none ∙ sym (ap (λ (b : Bool). b && not d.is_named) none)
+  test_alike (Some res) h (TimedOut verdict) = ap (λ (b : Bool). (is_guard row && is_error 62 res) && is_verdict verdict b) ready
+  test_alike (Some res) h Expired = refl
+  test_alike (Some res) h NotFound = refl
+  test_alike (Some res) h TooLate = refl
+  test_alike (Some res) h WentOn = refl
+
+  row_alike : (i : ℕ) → depends_on_others before row ≡ false → of_row i c before rows r row ≡ of_row i d before rows r row
+  row_alike i h =
+      ap (λ (fs : List Finding). fs ++ of_queued i before rows r row)
+      (group_alike Ended (λ (kind : EndedKind). ended_test kind c before rows r row) (λ (kind : EndedKind). ended_test kind d before rows r row) i r (test_alike (ending_of before row) h) ended_kinds)
+
+-- The findings about a request, if its lists are prepared.
+prepared : (s : Setup) (past : List Change) (b : Before) (e : Event) (m : Machine) (lists : Completed) (i : ℕ) (before : Option Row) (r : ℕ) (row : Row) → IsListed m past lists → (depends_on_others before row ≡ true → lists.is_known ≡ true)
+    → of_row i (noted s lists.severing.items lists.canceled.items b e m r row) before m.table r row ≡ of_row i (noted_by s past b e m r row) before m.table r row
+prepared s past b e m lists i before r row listed needed = by (depends_on_others before row) refl
+  where
+    by : (t : Bool) → depends_on_others before row ≡ t → of_row i (noted s lists.severing.items lists.canceled.items b e m r row) before m.table r row ≡ of_row i (noted_by s past b e m r row) before m.table r row
+    by true h =
+        let same = listed (needed h) in
+        ap (λ (ms : List Member). of_row i (noted s ms lists.canceled.items b e m r row) before m.table r row) same.0
+        ∙ ap (λ (ms : List Member). of_row i (noted s (severing_in m past) ms b e m r row) before m.table r row) same.1
+    by false h = row_alike (noted s lists.severing.items lists.canceled.items b e m r row) (noted_by s past b e m r row) refl refl before m.table r row i h
+
+-- The findings about a place that is a request.
+pub row_added : {V E : Type 0} (result : Result V E) (s : Setup) (past : List Change) (b : Before) (e : Event) (m : Machine) (lists : Completed) (i : ℕ) (old : Option Value) (before : Option Row) (r : ℕ) (row : Row) (fs gs : List Finding)
+    → IsListed m past lists → (depends_on_others before row ≡ true → lists.is_known ≡ true) → before ≡ row_in old → Some row ≡ slice_get m.table r
+    → OnOk result (gs ≡ fs ++ of_row i (noted s lists.severing.items lists.canceled.items b e m r row) before m.table r row) → OnOk result (gs ≡ fs ++ of_place i (noted_by s past b e m) m.table old (Request r))
+row_added (Ok x) s past b e m lists i old before r row fs gs listed needed same there added =
+    added ∙ ap (λ (hs : List Finding). fs ++ hs) (prepared s past b e m lists i before r row listed needed
+    ∙ ap (λ (o : Option Row). of_row i (noted_by s past b e m r row) o m.table r row) same
+    ∙ ap (λ (o : Option Row). option_map_or (λ (y : Row). of_row i (noted_by s past b e m r y) (row_in old) m.table r y) o []) there)
+row_added (Err x) s past b e m lists i old before r row fs gs listed needed same there added = tt
 
 -- ---- findings
 

@@ -19,9 +19,12 @@ use Rattle.machine.specs.Steps.{refusal, thread_refusal, next_refusal, instructi
 use Rattle.machine.specs.Threads.{ThreadState, program_of}
 use Rattle.finding_kinds.specs.Programs.{instruction_at}
 use Rattle.findings.specs.Conditions.{is_held_up, is_blocked, is_stuck, is_of_ring}
-use Rattle.findings.proofs.Blocked.{and_false}
 
-and_true : (b : Bool) → (b && true) ≡ b
+pub and_false : (b : Bool) → (b && false) ≡ false
+and_false true = refl
+and_false false = refl
+
+pub and_true : (b : Bool) → (b && true) ≡ b
 and_true true = refl
 and_true false = refl
 
@@ -69,7 +72,7 @@ program_there (x ∷ xs) zero = refl
 program_there (x ∷ xs) (suc t) = program_there xs t
 
 -- Whether thread t is stuck, by its state.
-abbrev stuck_in : Setup → Machine → ℕ → Option ThreadState → Bool
+abbrev pub stuck_in : Setup → Machine → ℕ → Option ThreadState → Bool
 stuck_in s m t o =
     nat_lt t (length s.threads)
     && (option_map_or (is_blocked m) (instruction_at s (Step t) (option_map (λ (x : ThreadState). x.counter) o)) false && option_map_or (λ (x : ThreadState). not (is_held_up x.stage)) o false)

@@ -29,7 +29,7 @@ use Rattle.findings.specs.Conflicts.{file_number, file_of_descriptor, file_numbe
 use Rattle.findings.specs.Durability.{is_volatile_at, completed_by, completed_at, written_of, written_at, written_before, moves, has_ended_with, fsync_of, fsync_at, failed, good, IsSuspect, IsRetried}
 use Rattle.findings.specs.Findings.{IsRetriedAt, Retries}
 use Rattle.findings.specs.Records.{given, RetriedBefore}
-use Rattle.findings.specs.Suspects.{is_marked, is_fsync_of, TellsMarked, AddsRetried, Follows, FollowsFiles}
+use Rattle.findings.specs.Suspects.{is_marked, is_fsync_of, SaysMarked, AddsRetried, Follows, FollowsFiles}
 use Rattle.findings.specs.Watched.{numbers_below}
 use Rattle.findings.proofs.Groups.{the_finding}
 use Rattle.findings.proofs.Marks.{marked_past, marks_kept, marks_same, marks_both}
@@ -222,17 +222,17 @@ retried_more : (s : Setup) (es : List Event) (i : ℕ) (sets : List (List ℕ)) 
     → RetriedBefore s es i fs → AddsRetried i (fsync_at s es good i) sets fs gs → RetriedBefore s es (i + 1) gs
 retried_more s es i sets fs gs suspects h = by (fsync_at s es good i) refl
   where
-    in_setup : (x : Fsync) (test : Bool) → fsync_at s es good i ≡ Some x → TellsMarked test sets x.file → gs ≡ fs ++ given test (the_finding i FsyncRetried x.row) → RetriedBefore s es (i + 1) gs
-    in_setup x true e tells added =
-        let suspect : IsSuspect s es i x.file tells.0 = MatchBool-at_true (IsSuspect s es i x.file tells.0) (IsSuspect s es i x.file tells.0 → ⊥) tells.1 (suspects x.file tells.0) in
+    in_setup : (x : Fsync) (test : Bool) → fsync_at s es good i ≡ Some x → SaysMarked test sets x.file → gs ≡ fs ++ given test (the_finding i FsyncRetried x.row) → RetriedBefore s es (i + 1) gs
+    in_setup x true e says added =
+        let suspect : IsSuspect s es i x.file says.0 = MatchBool-at_true (IsSuspect s es i x.file says.0) (IsSuspect s es i x.file says.0 → ⊥) says.1 (suspects x.file says.0) in
         retried_step s es i fs (the_finding i FsyncRetried x.row ∷ []) gs h
         (λ r q. has_contains (the_finding i FsyncRetried x.row ∷ []) (the_finding i FsyncRetried r) (inl (ap (the_finding i FsyncRetried) (ap (λ (y : Fsync). y.row) (same_Some x (the_fsync r q.file) (sym e ∙ q.succeeds))))))
-        (All-cons (IsEarlier s es (i + 1)) (the_finding i FsyncRetried x.row) [] (omega arith, record { file = x.file; byte = tells.0; succeeds = e; suspect = suspect }) (All-nil (IsEarlier s es (i + 1)))) added
-    in_setup x false e tells added =
+        (All-cons (IsEarlier s es (i + 1)) (the_finding i FsyncRetried x.row) [] (omega arith, record { file = x.file; byte = says.0; succeeds = e; suspect = suspect }) (All-nil (IsEarlier s es (i + 1)))) added
+    in_setup x false e says added =
         retried_step s es i fs [] gs h
         (λ r q.
         let same : q.file ≡ x.file = ap (λ (y : Fsync). y.file) (same_Some (the_fsync r q.file) x (sym q.succeeds ∙ e)) in
-        let none : is_marked sets q.file q.byte ≡ false = ap (λ (o : ℕ). is_marked sets o q.byte) same ∙ tells q.byte in
+        let none : is_marked sets q.file q.byte ≡ false = ap (λ (o : ℕ). is_marked sets o q.byte) same ∙ says q.byte in
         absurd (MatchBool-at_false (IsSuspect s es i q.file q.byte) (IsSuspect s es i q.file q.byte → ⊥) none (suspects q.file q.byte) q.suspect))
         (All-nil (IsEarlier s es (i + 1))) added
 

@@ -28,19 +28,19 @@ fault_if false = Note
 -- entries that wait are notes, and a stuck thread is no finding.
 abbrev pub reported_as : Condition → Bool → Option LastingKind
 reported_as Waits over = Some (lasting.Waits (fault_if over))
-reported_as LostWakeUp over = Some lasting.LostWakeUp
+reported_as LostWakeUp over = Some (lasting.LostWakeUp (fault_if over))
 reported_as NotTaken over = Some (lasting.NotTaken (fault_if over))
 reported_as NotReaped over = Some lasting.NotReaped
 reported_as Stuck true = Some lasting.Stuck
 reported_as Stuck false = None
 
 -- Whether a request is an FSYNC of a file (fsync(2)).
-abbrev pub is_fsync_of : Setup → ℕ → Row → Bool
-is_fsync_of s o row = (row.entry.opcode == 3) && are_one (file_of s row.entry.fd) (Some o)
+abbrev pub syncs : Setup → ℕ → Row → Bool
+syncs s o row = (row.entry.opcode == 3) && are_one (file_of s row.entry.fd) (Some o)
 
 -- Whether an FSYNC of a file was submitted.
 abbrev pub has_fsync : Setup → List Row → ℕ → Bool
-has_fsync s rows o = list_any (is_fsync_of s o) rows
+has_fsync s rows o = list_any (syncs s o) rows
 
 -- Whether a request or an object is a finding at the end. The Bool says whether the run is over
 -- then:

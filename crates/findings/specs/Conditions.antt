@@ -119,10 +119,6 @@ is_blocked m (Push index) = waiting m.submissions.head m.submissions.tail == len
 is_blocked m Reap = ready_count m == 0
 is_blocked m x = false
 
--- Whether some push or reap can't be done yet.
-abbrev pub is_any_blocked : Machine → Bool
-is_any_blocked m = is_blocked m Reap || is_blocked m (Push 0)
-
 -- Whether the state of a ring is why an event is refused.
 abbrev pub is_of_ring : Option Refusal → Bool
 is_of_ring (Some SqFull) = true

@@ -1,8 +1,9 @@
 -- The findings of an event as the search computes them, from the undo record of the event.
-use Rattle.std.specs.Prelude.{◌≡◌, ℕ, ◌<◌, ◌==◌, Bool, true, false, not, ◌&&◌, ◌||◌, ◌++◌, if◌then◌else◌, Option, Some, None, List, [], ◌∷◌, length, slice_get}
+use Rattle.std.specs.Prelude.{◌≡◌, ℕ, ℤ, pos, negsuc, nat_le, ◌<◌, ◌==◌, Bool, true, false, not, ◌&&◌, ◌||◌, ◌++◌, if◌then◌else◌, Option, Some, None, List, [], ◌∷◌, length, slice_get}
 use Rattle.std.specs.Option.{option_map_or}
 use Rattle.std.specs.List.{All, filter, flat_map, list_any, enumerate_from, Contains}
 use Rattle.links_drains.specs.Units.{is_open}
+use Rattle.timeouts_cancel.specs.Cascades.{is_bad, is_negative, is_transfer}
 use Rattle.entries.specs.declared.row.Row.{Row}
 use Rattle.places.specs.declared.place.Place.{Place}
 use Rattle.places.specs.declared.place.Place.TheVariants.{Request}
@@ -13,6 +14,7 @@ use Rattle.places.specs.View.{View, Exact, NamesOnce}
 use Rattle.scenario.specs.declared.event.Event.{Event}
 use Rattle.scenario.specs.declared.event.Event.TheVariants.{Step}
 use Rattle.scenario.specs.declared.setup.Instruction.{Instruction}
+use Rattle.scenario.specs.declared.setup.Instruction.TheVariants.{Put, Push, Store, Enter, Reap, Close}
 use Rattle.scenario.specs.declared.setup.Setup.{Setup}
 use Rattle.machine.specs.declared.whole.Machine.{Machine}
 use Rattle.machine.specs.Whole.{view}
@@ -30,16 +32,17 @@ use Rattle.finding_kinds.specs.declared.kind.TheConstants.StepKind.{ALL as step_
 use Rattle.finding_kinds.specs.declared.kind.TheConstants.QueuedKind.{ALL as queued_kinds}
 use Rattle.finding_kinds.specs.declared.kind.TheConstants.CancelKind.{ALL as cancel_kinds}
 use Rattle.findings.specs.declared.canceling.Cancel.{Cancel}
+use Rattle.findings.specs.declared.completed.Completed.{Completed}
 use Rattle.findings.specs.declared.completed.Member.{Member}
 use Rattle.findings.specs.declared.conditions.Before.{Before}
 use Rattle.findings.specs.declared.effect.Effect.{Effect}
 use Rattle.findings.specs.declared.effect.Effect.TheVariants.{Nothing}
 use Rattle.finding_kinds.specs.declared.finding.Finding.{Finding}
 use Rattle.findings.specs.AtEnd.{fault_if, has_fsync}
-use Rattle.findings.specs.Endings.{Circumstances, next_in, ended_test, queued_test}
+use Rattle.findings.specs.Endings.{Circumstances, ending_of, is_error, is_less, severs, next_in, ended_test, queued_test}
 use Rattle.findings.specs.Completions.{is_short_of_end, is_severing, cancels, is_later, member_of, is_expiry_of, expires_over, has_canceled_target, circumstances}
 use Rattle.findings.specs.Canceling.{cancel_before, is_of_cancel}
-use Rattle.findings.specs.Conditions.{overflows, done_by, is_of_step, has_unsynced}
+use Rattle.findings.specs.Conditions.{answer_of, overflows, done_by, is_of_step, has_unsynced}
 use Rattle.findings.specs.Conflicts.{done_at, is_candidate, conflicts}
 use Rattle.findings.specs.Uses.{changes_at}
 use Rattle.findings.specs.Findings.{occurs_at, Lasts, IsLeft, Retries, IsFinding, judged_kind}
@@ -52,6 +55,10 @@ use Rattle.findings.specs.Watched.{numbers_below}
 -- The findings about one subject of those kinds of a group that pass a test.
 abbrev pub of_group : {K : Type 0} → (K → Kind) → (K → Bool) → ℕ → ℕ → List K → List Finding
 of_group whole test i n kinds = flat_map (λ kind. given (test kind) (record { moment = i; kind = whole kind; subject = n })) kinds
+
+-- Whether completing with a result can be a finding: it is an error, or the request is short.
+abbrev pub is_notable : Row → ℤ → Bool
+is_notable row res = is_negative res || (is_bad row res || (is_transfer row.entry.opcode && is_less res row.entry.len))
 
 -- The findings about the completion of request r.
 abbrev pub of_ended : ℕ → Circumstances → Option Row → List Row → ℕ → Row → List Finding
@@ -116,6 +123,23 @@ severs_chain rows r before row = continues rows r row && is_severing before row
 abbrev pub cancels_at : ℕ → Option Row → Row → Bool
 cancels_at r before row = cancels before row
 
+-- The requests that severed their chain in an event, and those that it canceled, by its record and
+-- the machine after it.
+abbrev pub severing_in : Machine → List Change → List Member
+severing_in m past = flat_map (members_of (severs_chain m.table) m.table) past
+
+abbrev pub canceled_in : Machine → List Change → List Member
+canceled_in m past = flat_map (members_of cancels_at m.table) past
+
+-- Whether a finding about the completion of a request can depend on those: the request was canceled,
+-- or it severs its chain.
+abbrev pub depends_on_others : Option Row → Row → Bool
+depends_on_others before row = option_map_or (λ res. is_error 125 res || severs before row res) (ending_of before row) false
+
+-- The lists are those of the event, if they were computed.
+abbrev pub IsListed : Machine → List Change → Completed → Type 0
+IsListed m past c = c.is_known ≡ true → (c.severing.items ≡ severing_in m past) × (c.canceled.items ≡ canceled_in m past)
+
 -- Whether an earlier request severed x's chain, and a later one than that was canceled, by all
 -- requests that did so in an event.
 abbrev pub is_severed_in : List Member → List Member → Member → Bool
@@ -131,11 +155,30 @@ noted s severing canceled b e after r row = record {
   was_ready = is_expiry_of r e && (b.was_ready && has_canceled_target after.table row);
 }
 
+-- The same, by the record of the event.
+abbrev pub noted_by : Setup → List Change → Before → Event → Machine → ℕ → Row → Circumstances
+noted_by s past b e after r row = noted s (severing_in after past) (canceled_in after past) b e after r row
+
 -- ---- one event
 
 -- Completions went to the backlog, which was empty before.
 abbrev pub of_overflow : ℕ → Bool → Bool → List Finding
 of_overflow i before after = given (not before && after) (record { moment = i; kind = group.Overflow; subject = 0 })
+
+-- Whether an enter took all entries that it was to submit, or waits. The number is its result.
+abbrev pub took_all : ℕ → Option ℤ → Bool
+took_all to_submit None = true
+took_all to_submit (Some (pos n)) = nat_le to_submit n
+took_all to_submit (Some (negsuc n)) = false
+
+-- Whether an instruction that thread t did is a finding of no kind, by a test that costs little.
+abbrev pub is_plain : Bool → Instruction → Machine → ℕ → Bool
+is_plain changes (Put slot entry) m t = not changes
+is_plain changes (Push index) m t = false
+is_plain changes (Store address bytes) m t = true
+is_plain changes (Enter to_submit min_complete flags) m t = took_all to_submit (answer_of m t)
+is_plain changes Reap m t = true
+is_plain changes (Close fd) m t = false
 
 -- The findings about an instruction that thread t did. `changes` says whether it changed a slot.
 abbrev pub of_instruction : ℕ → Bool → Instruction → Machine → ℕ → List Finding

@@ -17,7 +17,7 @@ use Rattle.findings.specs.Findings.{condition_holds_at}
 use Rattle.findings.specs.Records.{Covers, FoundBefore}
 use Rattle.findings.specs.Suspects.{FollowsFiles}
 use Rattle.findings.specs.Uses.{changes_at}
-use Rattle.findings.specs.Watched.{continued, watched}
+use Rattle.findings.specs.Watched.{next_of, continued, watched}
 
 -- The facts about the machine before an event that the event may change.
 abbrev pub facts_before : Setup → Machine → Event → Before
@@ -38,9 +38,9 @@ unfoldable pub since_of : (ℕ → Bool) → ℕ → Option ℕ
 since_of holds zero = continued (holds zero) None zero
 since_of holds (suc n) = continued (holds (suc n)) (since_of holds n) (suc n)
 
--- A watched condition at moment n of a run.
+-- A watched condition at moment n of a run, with what its thread does next.
 abbrev pub watch_at : Setup → List Event → ℕ → Watch → Watch
-watch_at s es n w = record w { since = since_of (condition_holds_at s es w.condition w.subject) n }
+watch_at s es n w = record w { next = next_of s (machine_at s es n) w.subject; since = since_of (condition_holds_at s es w.condition w.subject) n }
 
 -- The search has seen the first n events of a run: it has their findings, follows each incomplete
 -- READ and WRITE, knows since when each watched condition holds, and has followed the WRITEs and

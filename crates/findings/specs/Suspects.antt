@@ -26,14 +26,14 @@ abbrev pub is_fsync_of : Option Fsync → ℕ → Bool
 is_fsync_of x o = option_map_or (λ (y : Fsync). y.file == o) x false
 
 -- The test says whether the set of object o has a byte.
-abbrev pub TellsMarked : Bool → List (List ℕ) → ℕ → Type 0
-TellsMarked test sets o = MatchBool test ((k : ℕ) × (is_marked sets o k ≡ true)) ((k : ℕ) → is_marked sets o k ≡ false)
+abbrev pub SaysMarked : Bool → List (List ℕ) → ℕ → Type 0
+SaysMarked test sets o = MatchBool test ((k : ℕ) × (is_marked sets o k ≡ true)) ((k : ℕ) → is_marked sets o k ≡ false)
 
 -- The findings about an FSYNC that an event completes without error, if it completes one: a finding
 -- if the file has a suspect byte.
 abbrev pub AddsRetried : ℕ → Option Fsync → List (List ℕ) → List Finding → List Finding → Type 0
 AddsRetried i None sets fs gs = gs ≡ fs
-AddsRetried i (Some x) sets fs gs = (test : Bool) × TellsMarked test sets x.file × (gs ≡ fs ++ given test (record { moment = i; kind = FsyncRetried; subject = x.row }))
+AddsRetried i (Some x) sets fs gs = (test : Bool) × SaysMarked test sets x.file × (gs ≡ fs ++ given test (record { moment = i; kind = FsyncRetried; subject = x.row }))
 
 -- What the completion of a READ, WRITE or FSYNC by event i changes, by the machine after it: the
 -- completed WRITEs, the suspect bytes, and the findings about retried FSYNCs.

@@ -1,15 +1,66 @@
 -- Conditions that are findings if they last to the end, with the moment since when each holds.
-use Rattle.std.specs.Prelude.{ℕ, zero, suc, Bool, true, false, Option, Some, None, List, [], ◌∷◌, ◌++◌, length, map}
+use Rattle.std.specs.Prelude.{◌≡◌, ℕ, zero, suc, ◌==◌, Bool, true, false, nat_lt, if◌then◌else◌, Option, Some, None, slice_get, List, [], ◌∷◌, ◌++◌, length, map}
+use Rattle.std.specs.List.{All}
+use Rattle.places.specs.declared.value.Stage.{Stage}
+use Rattle.places.specs.declared.value.Stage.TheVariants.{Ready, Waiting}
+use Rattle.scenario.specs.declared.event.Event.{Event}
+use Rattle.scenario.specs.declared.event.Event.TheVariants.{Step}
+use Rattle.scenario.specs.declared.setup.Instruction.{Instruction}
+use Rattle.scenario.specs.declared.setup.Instruction.TheVariants.{Push, Reap}
 use Rattle.scenario.specs.declared.setup.Setup.{Setup}
 use Rattle.machine.specs.declared.whole.Machine.{Machine}
+use Rattle.machine.specs.Threads.{ThreadState}
 use Rattle.finding_kinds.specs.declared.finding.Finding.{Finding}
 use Rattle.finding_kinds.specs.declared.kind.Kind.TheVariants.{Lasting}
 use Rattle.finding_kinds.specs.declared.kind.LastingKind.{LastingKind}
 use Rattle.findings.specs.declared.conditions.Condition.{Condition}
 use Rattle.findings.specs.declared.conditions.Condition.TheVariants.{Waits, LostWakeUp, NotTaken, NotReaped, Stuck}
+use Rattle.findings.specs.declared.conditions.Next.{Next}
+use Rattle.findings.specs.declared.conditions.Next.TheVariants as next
 use Rattle.findings.specs.declared.watching.Watch.{Watch}
 use Rattle.findings.specs.AtEnd.{reported_as}
-use Rattle.findings.specs.Conditions.{condition_holds}
+use Rattle.findings.specs.Conditions.{is_blocked, condition_holds}
+use Rattle.finding_kinds.specs.Programs.{instruction_at}
+
+-- What a thread with a stage and a next instruction does next.
+abbrev pub next_at : Stage → Option Instruction → Next
+next_at (Waiting submitted needed) x = next.Waits
+next_at Ready (Some (Push index)) = next.Pushes
+next_at Ready (Some Reap) = next.Reaps
+next_at Ready x = next.Other
+
+-- What thread t does next, if it belongs to the setup.
+abbrev pub next_in : Setup → ℕ → Option ThreadState → Next
+next_in s t None = next.Other
+next_in s t (Some x) = if nat_lt t (length s.threads) then next_at x.stage (instruction_at s (Step t) (Some x.counter)) else next.Other
+
+abbrev pub next_of : Setup → Machine → ℕ → Next
+next_of s m t = next_in s t (slice_get m.threads t)
+
+-- Whether it waits in its enter.
+abbrev pub is_waiting : Next → Bool
+is_waiting next.Waits = true
+is_waiting x = false
+
+-- Whether it pushes or reaps, and that can't be done yet.
+abbrev pub blocks : Machine → Next → Bool
+blocks m next.Pushes = is_blocked m (Push 0)
+blocks m next.Reaps = is_blocked m Reap
+blocks m x = false
+
+-- The thread whose step an event was, and what it does next by the machine after it.
+abbrev pub moved_by : Setup → Event → Machine → Option (ℕ × Next)
+moved_by s (Step t) m = Some (t, next_of s m t)
+moved_by s e m = None
+
+-- What the thread of a watched condition does next, after a thread moved on.
+abbrev pub next_after : Option (ℕ × Next) → Watch → Next
+next_after None w = w.next
+next_after (Some p) w = if p.0 == w.subject then p.1 else w.next
+
+-- That is right for each watched condition, by the machine after an event.
+abbrev pub AreNext : Setup → Event → Machine → List Watch → Type 0
+AreNext s e m ws = All (λ w. next_after (moved_by s e m) w ≡ next_of s m w.subject) ws
 
 -- Since when a condition holds, given whether it holds at the next moment.
 abbrev pub continued : Bool → Option ℕ → ℕ → Option ℕ
@@ -19,11 +70,11 @@ continued true (Some i) moment = Some i
 
 -- A condition updated for the next moment.
 abbrev pub advanced : Setup → Machine → ℕ → Watch → Watch
-advanced s m moment w = record w { since = continued (condition_holds s w.condition m w.subject) w.since moment }
+advanced s m moment w = record w { next = next_of s m w.subject; since = continued (condition_holds s w.condition m w.subject) w.since moment }
 
 -- A condition that has not held so far.
 abbrev pub fresh : Condition → ℕ → Watch
-fresh condition n = record { condition = condition; subject = n; since = None }
+fresh condition n = record { condition = condition; subject = n; next = next.Other; since = None }
 
 -- The numbers below n, ascending.
 abbrev pub numbers_below : ℕ → List ℕ

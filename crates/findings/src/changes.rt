@@ -4,17 +4,32 @@ ghost use Rattle.std.specs.Prelude.{◌≡◌, ◌++◌, OnOk};
 ghost use Rattle.std.specs.List.{flat_map};
 ghost use Rattle.machine.specs.Whole.{view};
 ghost use Rattle.places.specs.View.{NamesOnce};
-ghost use Rattle.findings.specs.Records.{noted, of_place, of_change, after_note, after_notes, OfNoRow};
+ghost use Rattle.findings.specs.Records.{noted_by, of_place, of_change, after_note, after_notes, IsListed, OfNoRow};
 
+use crate::completed::{Completed, prepare};
 use crate::conflicts::is_candidate;
 use crate::following::{follow, is_candidate_in};
 use crate::leftover::row_at;
 use crate::noting::note_row;
 use crate::record::{add_of_row, row_in};
 use crate::transition::Transition;
+use entries::Phase;
 use finding_kinds::{Finding, Times};
-use places::{Change, Changes, Place, Record, Stretches, Value};
+use places::{Change, Changes, Place, Stretches, Value};
 use std::alloc::AllocError;
+
+// Records the phase of a request, if the search keeps the history.
+fn note_phase(
+    times: &mut Vec<Times>,
+    at: Transition<'_>,
+    number: u32,
+    phase: Phase,
+) -> Result<(), AllocError> {
+    if !at.keeps_history {
+        return Ok(());
+    }
+    note_row(times, at.moment, number, phase)
+}
 
 // Handles one request that the record names: adds its findings, records its change of phase, and
 // updates the followed numbers.
@@ -22,65 +37,79 @@ fn look_at_row(
     found: &mut Vec<Finding>,
     numbers: &mut Vec<u32>,
     times: &mut Vec<Times>,
+    completed: &mut Completed,
     at: Transition<'_>,
     number: u32,
     old: Option<Value>,
 ) -> Result<(), AllocError>
+    requires { IsListed at.state.now at.past.now completed.old }
     ensures added { OnOk result (found.new.items ≡ found.old.items
-        ++ of_place at.entry.moment (noted at.entry.setup.now
-        at.entry.completed.now.severing.items at.entry.completed.now.canceled.items
+        ++ of_place at.entry.moment (noted_by at.entry.setup.now at.entry.past.now
         at.entry.before at.entry.event at.entry.state.now)
         at.entry.state.now.table old (Place.Request number)) }
     ensures further { OnOk result (numbers.new.items
         ≡ after_note (view at.entry.state.now) numbers.old.items old (Place.Request number)) }
+    ensures listed { OnOk result (IsListed at.entry.state.now at.entry.past.now completed.new) }
 {
     let was = is_candidate_in(old);
     let Some(row) = row_at(at.state, number) else {
         return follow(numbers, number, was, false);
     };
     follow(numbers, number, was, is_candidate(&row))?;
-    note_row(times, at.moment, number, row.phase)?;
-    add_of_row(found, at, &row_in(old), number, &row)
+    note_phase(times, at, number, row.phase)?;
+    let before = row_in(old);
+    prepare(completed, at, &before, &row)?;
+    add_of_row(found, at, completed, &before, number, &row)
 }
 
 fn look_at_change(
     found: &mut Vec<Finding>,
     numbers: &mut Vec<u32>,
     times: &mut Vec<Times>,
+    completed: &mut Completed,
     at: Transition<'_>,
     change: Change,
 ) -> Result<(), AllocError>
+    requires { IsListed at.state.now at.past.now completed.old }
     ensures added { OnOk result (found.new.items ≡ found.old.items
-        ++ of_change at.entry.moment (noted at.entry.setup.now
-        at.entry.completed.now.severing.items at.entry.completed.now.canceled.items
+        ++ of_change at.entry.moment (noted_by at.entry.setup.now at.entry.past.now
         at.entry.before at.entry.event at.entry.state.now)
         at.entry.state.now.table change) }
     ensures further { OnOk result (numbers.new.items
         ≡ after_note (view at.entry.state.now) numbers.old.items change.old change.place) }
+    ensures listed { OnOk result (IsListed at.entry.state.now at.entry.past.now completed.new) }
 {
     let Place::Request(number) = change.place else {
         return Ok(());
     };
-    look_at_row(found, numbers, times, at, number, change.old)
+    look_at_row(found, numbers, times, completed, at, number, change.old)
 }
 
+// Handles the changes of numbers, which come first and cost less to read, and then the others.
 fn look_at_changes(
     found: &mut Vec<Finding>,
     numbers: &mut Vec<u32>,
     times: &mut Vec<Times>,
+    completed: &mut Completed,
     at: Transition<'_>,
     rest: &mut Changes<'_>,
 ) -> Result<(), AllocError>
+    requires { IsListed at.state.now at.past.now completed.old }
     ensures added { OnOk result (found.new.items ≡ found.old.items
-        ++ flat_map (of_change at.entry.moment (noted at.entry.setup.now
-        at.entry.completed.now.severing.items at.entry.completed.now.canceled.items
+        ++ flat_map (of_change at.entry.moment (noted_by at.entry.setup.now at.entry.past.now
         at.entry.before at.entry.event at.entry.state.now)
         at.entry.state.now.table) rest.old) }
     ensures further { OnOk result (numbers.new.items
         ≡ after_notes (view at.entry.state.now) numbers.old.items rest.old) }
+    ensures listed { OnOk result (IsListed at.entry.state.now at.entry.past.now completed.new) }
 {
+    while let Some((place, old)) = rest.next_number() {
+        let old = Some(Value::Number(old));
+        let change = Change { place, old };
+        look_at_change(found, numbers, times, completed, at, change)?;
+    }
     while let Some(change) = rest.next() {
-        look_at_change(found, numbers, times, at, change)?;
+        look_at_change(found, numbers, times, completed, at, change)?;
     }
     Ok(())
 }
@@ -99,19 +128,18 @@ pub(crate) fn look_at_record(
     numbers: &mut Vec<u32>,
     times: &mut Vec<Times>,
     at: Transition<'_>,
-    past: &Record,
 ) -> Result<(), AllocError>
     ensures added { OnOk result (found.new.items ≡ found.old.items
-        ++ flat_map (of_change at.entry.moment (noted at.entry.setup.now
-        at.entry.completed.now.severing.items at.entry.completed.now.canceled.items
+        ++ flat_map (of_change at.entry.moment (noted_by at.entry.setup.now at.entry.past.now
         at.entry.before at.entry.event at.entry.state.now)
-        at.entry.state.now.table) past.now) }
-    ensures once { OnOk result (NamesOnce past.now) }
+        at.entry.state.now.table) at.entry.past.now) }
+    ensures once { OnOk result (NamesOnce at.entry.past.now) }
     ensures further { OnOk result (numbers.new.items
-        ≡ after_notes (view at.entry.state.now) numbers.old.items past.now) }
+        ≡ after_notes (view at.entry.state.now) numbers.old.items at.entry.past.now) }
 {
-    let (mut first, mut bytes, mut last) = past.parts();
+    let (mut first, mut bytes, mut last) = at.past.parts();
     pass_over(&mut bytes);
-    look_at_changes(found, numbers, times, at, &mut first)?;
-    look_at_changes(found, numbers, times, at, &mut last)
+    let mut completed = Completed::unknown(*found.allocator());
+    look_at_changes(found, numbers, times, &mut completed, at, &mut first)?;
+    look_at_changes(found, numbers, times, &mut completed, at, &mut last)
 }

@@ -6,7 +6,7 @@ ghost use Rattle.std.specs.List.{list_any};
 ghost use Rattle.links_drains.specs.Holding.{is_number};
 ghost use Rattle.findings.specs.Endings.{is_verdict};
 ghost use Rattle.findings.specs.Conflicts.{moved, file_of};
-ghost use Rattle.findings.specs.Completions.{ends_before, is_short_of_end, is_later, member_of, limits, expires_over, could_finish, has_ready_target, expires_over_ready, was_canceled, has_canceled_target};
+ghost use Rattle.findings.specs.Completions.{ends_before, is_short_of_end, is_later, member_of, is_expiry_of, limits, expires_over, could_finish, has_ready_target, expires_over_ready, was_canceled, has_canceled_target};
 ghost use Rattle.findings.specs.Records.{is_severed_in, noted};
 
 use crate::completed::{Completed, Member};
@@ -88,12 +88,17 @@ fn member_of(number: u32, row: &Row) -> Member
 }
 
 /// Returns whether the event canceled a later request of the chain.
-pub(crate) fn severs_others(at: Transition<'_>, number: u32, row: &Row) -> bool
-    ensures { result ≡ (noted at.entry.setup.now at.entry.completed.now.severing.items
-        at.entry.completed.now.canceled.items at.entry.before at.entry.event at.entry.state.now
+pub(crate) fn severs_others(
+    at: Transition<'_>,
+    completed: &Completed,
+    number: u32,
+    row: &Row,
+) -> bool
+    ensures { result ≡ (noted at.entry.setup.now completed.now.severing.items
+        completed.now.canceled.items at.entry.before at.entry.event at.entry.state.now
         number row.now).severs_others }
 {
-    continues(at.state, number, row) && has_later(&at.completed.canceled, member_of(number, row))
+    continues(at.state, number, row) && has_later(&completed.canceled, member_of(number, row))
 }
 
 // Returns whether one request severed the chain of another, and the event canceled a later one.
@@ -166,12 +171,12 @@ fn expires_over(state: &State, event: Event, number: u32) -> bool
 
 /// Returns whether another finding of the event names a canceled request: an earlier request of its
 /// chain severed it, or its linked timeout expired.
-pub(crate) fn is_named(at: Transition<'_>, number: u32, row: &Row) -> bool
-    ensures { result ≡ (noted at.entry.setup.now at.entry.completed.now.severing.items
-        at.entry.completed.now.canceled.items at.entry.before at.entry.event at.entry.state.now
+pub(crate) fn is_named(at: Transition<'_>, completed: &Completed, number: u32, row: &Row) -> bool
+    ensures { result ≡ (noted at.entry.setup.now completed.now.severing.items
+        completed.now.canceled.items at.entry.before at.entry.event at.entry.state.now
         number row.now).is_named }
 {
-    is_row_severed(at.completed, number, row) || expires_over(at.state, at.event, number)
+    is_row_severed(completed, number, row) || expires_over(at.state, at.event, number)
 }
 
 fn could_finish(state: &State, number: u32) -> bool
@@ -240,9 +245,8 @@ fn has_canceled_target(state: &State, row: &Row) -> bool
 /// Returns whether the event is the expiry of this linked timeout, and canceled its target though
 /// that could have completed.
 pub(crate) fn was_ready(at: Transition<'_>, number: u32, row: &Row) -> bool
-    ensures { result ≡ (noted at.entry.setup.now at.entry.completed.now.severing.items
-        at.entry.completed.now.canceled.items at.entry.before at.entry.event at.entry.state.now
-        number row.now).was_ready }
+    ensures { result ≡ (is_expiry_of number at.entry.event && (at.entry.before.was_ready
+        && has_canceled_target at.entry.state.now.table row.now)) }
 {
     match at.event {
         Event::Expire(guard) => {

@@ -1,14 +1,14 @@
 //! The requests that an event completes, as far as they sever their chain or are canceled
 //! (io_uring_enter(2), IOSQE_IO_LINK).
-ghost use Rattle.std.specs.Prelude.{◌≡◌, ◌++◌, IfOk, OnOk};
+ghost use Rattle.std.specs.Prelude.{◌≡◌, ◌++◌, [], true, false, IfOk, OnOk};
 ghost use Rattle.std.specs.List.{flat_map};
-ghost use Rattle.machine.specs.Whole.{WellFormed};
-ghost use Rattle.findings.specs.Records.{member_if, members_at, members_of, severs_chain, cancels_at};
+ghost use Rattle.findings.specs.Records.{member_if, members_at, members_of, severs_chain, cancels_at, severing_in, canceled_in, depends_on_others, IsListed};
 
 use crate::changes::pass_over;
-use crate::ends::{cancels, continues, is_severing};
+use crate::ends::{cancels, continues, depends_on_others, is_severing};
 use crate::leftover::row_at;
 use crate::record::row_in;
+use crate::transition::Transition;
 use entries::Row;
 use machine::State;
 use places::{Change, Changes, Place, Record, Value};
@@ -22,13 +22,30 @@ pub struct Member {
     pub unit: u32,
 }
 
-/// The requests that an event completes, as far as they can name others or be named.
+/// The requests that an event completes, as far as they can name others or be named. The lists are
+/// empty until they are known.
 #[derive(Drop)]
 pub struct Completed {
+    pub is_known: bool,
     /// Soft-linked requests that failed or were short themselves, whose chain has a later request.
     pub severing: Vec<Member>,
     /// Requests that complete with ECANCELED, except linked timeouts.
     pub canceled: Vec<Member>,
+}
+
+impl Completed {
+    /// Returns lists that aren't known yet.
+    pub(crate) fn unknown(alloc: Global) -> Completed
+        ensures unknown { result.is_known ≡ false }
+        ensures severing { result.severing.items ≡ [] }
+        ensures canceled { result.canceled.items ≡ [] }
+    {
+        Completed {
+            is_known: false,
+            severing: Vec::new(alloc),
+            canceled: Vec::new(alloc),
+        }
+    }
 }
 
 // Appends a request if the test is true.
@@ -94,26 +111,39 @@ fn add_changes(
     Ok(())
 }
 
-/// Returns the requests that an event completes, from its record and the state after it.
-pub(crate) fn completed_by(
-    alloc: Global,
-    state: &State,
-    past: &Record,
-) -> Result<Completed, AllocError>
-    ensures severing { IfOk result (λ completed. completed.severing.items
-        ≡ flat_map (members_of (severs_chain state.now.table) state.now.table) past.now) }
-    ensures canceled { IfOk result (λ completed. completed.canceled.items
-        ≡ flat_map (members_of cancels_at state.now.table) past.now) }
-    ensures formed { WellFormed state.now }
+// Returns the requests that an event completes, from its record and the state after it.
+fn completed_by(alloc: Global, state: &State, past: &Record) -> Result<Completed, AllocError>
+    ensures known { IfOk result (λ completed. completed.is_known ≡ true) }
+    ensures severing { IfOk result (λ completed.
+        completed.severing.items ≡ severing_in state.now past.now) }
+    ensures canceled { IfOk result (λ completed.
+        completed.canceled.items ≡ canceled_in state.now past.now) }
 {
-    let _first = row_at(state, 0);
     let (mut first, mut bytes, mut last) = past.parts();
     pass_over(&mut bytes);
-    let mut completed = Completed {
-        severing: Vec::new(alloc),
-        canceled: Vec::new(alloc),
-    };
+    let mut completed = Completed::unknown(alloc);
     add_changes(&mut completed, state, &mut first)?;
     add_changes(&mut completed, state, &mut last)?;
+    completed.is_known = true;
     Ok(completed)
+}
+
+/// Computes the lists if a finding about the completion of a request depends on them, and they
+/// aren't known.
+pub(crate) fn prepare(
+    completed: &mut Completed,
+    at: Transition<'_>,
+    before: &Option<Row>,
+    row: &Row,
+) -> Result<(), AllocError>
+    requires { IsListed at.state.now at.past.now completed.old }
+    ensures listed { OnOk result (IsListed at.entry.state.now at.entry.past.now completed.new) }
+    ensures known { OnOk result (depends_on_others before.now row.now ≡ true →
+        completed.new.is_known ≡ true) }
+{
+    if !completed.is_known && depends_on_others(before, row) {
+        let alloc = *completed.severing.allocator();
+        *completed = completed_by(alloc, at.state, at.past)?;
+    }
+    Ok(())
 }

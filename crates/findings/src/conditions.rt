@@ -1,10 +1,13 @@
 //! Findings about the rings and the threads.
 ghost use Rattle.std.specs.Prelude.{◌≡◌, ◌==◌, false, length};
-ghost use Rattle.std.specs.Option.{option_map_or};
+ghost use Rattle.std.specs.Option.{option_copied, option_map_or};
 ghost use Rattle.links_drains.specs.Links.{has_flag};
 ghost use Rattle.ring_words.specs.Rings.{waiting};
-ghost use Rattle.findings.specs.Conditions.{needs_wake_up, overflows, has_entries, has_completions, counter_of, answer_of, has_closed, has_descriptor, is_of_step, waits, is_ready, is_blocked, is_any_blocked, is_stuck, condition_holds};
+ghost use Rattle.findings.specs.Conditions.{needs_wake_up, overflows, has_entries, has_completions, counter_of, answer_of, has_closed, has_descriptor, is_of_step, condition_holds};
 ghost use Rattle.findings.specs.Endings.{is_error, is_less};
+ghost use Rattle.findings.specs.Records.{took_all, is_plain};
+ghost use Rattle.findings.specs.Watched.{next_at, next_of, is_waiting, blocks};
+ghost use Rattle.scenario.specs.declared.setup.Setup.{Setup};
 ghost use Rattle.machine.specs.Steps.{number_in};
 ghost use Rattle.findings.specs.Searching.{facts_before};
 
@@ -29,6 +32,19 @@ pub enum Condition {
     NotReaped,
     /// The thread reaps from an empty ring, or pushes to a full one.
     Stuck,
+}
+
+/// What a thread does next, as far as a condition depends on it.
+#[derive(Clone, Copy)]
+pub enum Next {
+    /// It waits in its enter.
+    Waits,
+    /// It pushes an index.
+    Pushes,
+    /// It reaps a completion.
+    Reaps,
+    /// It has another instruction, or none, or isn't in the setup.
+    Other,
 }
 
 /// Facts about the state before an event, saved because the event changes them.
@@ -193,6 +209,28 @@ fn has_descriptor(state: &State, fd: i32) -> bool
     }
 }
 
+// Returns whether an enter took all entries, or waits.
+fn took_all(to_submit: u32, state: &State, thread: u32) -> bool
+    ensures { result ≡ took_all to_submit (answer_of state.now thread) }
+{
+    match answer(state, thread) {
+        Some(answer) => answer >= i64::from(to_submit),
+        None => true,
+    }
+}
+
+/// Returns whether a step of a thread is a finding of no kind, by a test that costs little.
+pub(crate) fn is_plain(changes: bool, instruction: &Instruction, state: &State, thread: u32) -> bool
+    ensures { result ≡ is_plain changes instruction.now state.now thread }
+{
+    match instruction {
+        Instruction::Store(_, _) | Instruction::Reap => true,
+        Instruction::Put(_, _) => !changes,
+        Instruction::Enter { to_submit, .. } => took_all(*to_submit, state, thread),
+        Instruction::Push(_) | Instruction::Close(_) => false,
+    }
+}
+
 /// Returns whether a step of a thread is a finding of this kind. `changes` says whether it changed
 /// a slot; `state` is the state after it.
 pub(crate) fn is_of_step(
@@ -229,26 +267,31 @@ pub(crate) fn is_of_step(
     }
 }
 
-// Returns whether a thread of the setup waits in its enter.
-fn waits(setup: &Setup, state: &State, thread: u32) -> bool
-    ensures { result ≡ waits setup.now state.now thread }
+// Returns what a thread that waits in no enter does next, from its instruction.
+fn next_by(instruction: Option<&Instruction>) -> Next
+    ensures { result ≡ next_at Stage.Ready (option_copied instruction.entry) }
 {
-    if thread as usize >= setup.threads.as_slice().len() {
-        return false;
-    }
-    match state.value(Place::ThreadStage(thread)) {
-        Some(Value::Staged(Stage::Waiting(_, _))) => true,
-        _ => false,
+    match instruction {
+        Some(Instruction::Push(_)) => Next::Pushes,
+        Some(Instruction::Reap) => Next::Reaps,
+        _ => Next::Other,
     }
 }
 
-// Returns whether the thread waits in no enter.
-fn is_ready(state: &State, thread: u32) -> bool
-    ensures { result ≡ is_ready state.now thread }
+/// Returns what a thread of the setup does next.
+pub(crate) fn next_of(setup: &Setup, state: &State, thread: u32) -> Next
+    ensures { result ≡ next_of setup.now state.now thread }
 {
+    if thread as usize >= setup.threads.as_slice().len() {
+        return Next::Other;
+    }
+    let step = Event::Step(thread);
     match state.value(Place::ThreadStage(thread)) {
-        Some(Value::Staged(Stage::Ready)) => true,
-        _ => false,
+        Some(Value::Staged(Stage::Waiting(_, _))) => Next::Waits,
+        Some(Value::Staged(Stage::Ready)) => {
+            next_by(instruction_at(setup, step, counter_of(state, step)))
+        }
+        _ => Next::Other,
     }
 }
 
@@ -261,56 +304,37 @@ fn is_full(state: &State) -> bool
     ring.waiting() == ring.size()
 }
 
-// Returns whether an instruction is a push or a reap that can't be done yet.
-fn is_blocked(state: &State, instruction: &Instruction) -> bool
-    ensures { result ≡ is_blocked state.now instruction.now }
+fn is_waiting(next: Next) -> bool
+    ensures { result ≡ is_waiting next }
 {
-    match instruction {
-        Instruction::Push(_) => is_full(state),
-        Instruction::Reap => state.completions().is_empty(),
-        _ => false,
+    match next {
+        Next::Waits => true,
+        Next::Pushes | Next::Reaps | Next::Other => false,
     }
 }
 
-// Returns whether a push or a reap can't be done yet.
-fn is_any_blocked(state: &State) -> bool
-    ensures { result ≡ is_any_blocked state.now }
+// Returns whether what a thread does next is a push or a reap that can't be done yet.
+fn is_stuck(next: Next, state: &State) -> bool
+    ensures { result ≡ blocks state.now next }
 {
-    state.completions().is_empty() || is_full(state)
-}
-
-// Returns whether a thread of the setup is ready, and its next instruction is a push or a reap that
-// can't be done yet. Looks at the rings before the thread, which costs less.
-fn is_stuck(setup: &Setup, state: &State, thread: u32) -> bool
-    ensures { result ≡ is_stuck setup.now state.now thread }
-{
-    if thread as usize >= setup.threads.as_slice().len() {
-        return false;
-    }
-    if !is_any_blocked(state) {
-        return false;
-    }
-    let step = Event::Step(thread);
-    match instruction_at(setup, step, counter_of(state, step)) {
-        Some(instruction) => is_blocked(state, instruction) && is_ready(state, thread),
-        None => false,
+    match next {
+        Next::Pushes => is_full(state),
+        Next::Reaps => state.completions().is_empty(),
+        Next::Waits | Next::Other => false,
     }
 }
 
-/// Returns whether a condition holds that is a finding if it lasts to the end of the run.
-pub(crate) fn condition_holds(
-    setup: &Setup,
-    condition: Condition,
-    state: &State,
-    subject: u32,
-) -> bool
-    ensures { result ≡ condition_holds setup.now condition state.now subject }
+/// Returns whether a condition holds that is a finding if it lasts to the end of the run. `next` is
+/// what the thread in question does next.
+pub(crate) fn condition_holds(condition: Condition, state: &State, subject: u32, next: Next) -> bool
+    ensures { (s : Setup) → next ≡ next_of s state.now subject →
+        result ≡ condition_holds s condition state.now subject }
 {
     match condition {
         Condition::LostWakeUp => subject == 0 && (needs_wake_up(state) && has_entries(state)),
         Condition::NotTaken => subject == 0 && (!needs_wake_up(state) && has_entries(state)),
         Condition::NotReaped => subject == 0 && (overflows(state) || has_completions(state)),
-        Condition::Waits => waits(setup, state, subject),
-        Condition::Stuck => is_stuck(setup, state, subject),
+        Condition::Waits => is_waiting(next),
+        Condition::Stuck => is_stuck(next, state),
     }
 }

@@ -5,9 +5,10 @@ ghost use Rattle.timeouts_cancel.specs.Cascades.{is_bad, is_transfer};
 ghost use Rattle.links_drains.specs.Links.{has_flag, is_guard, is_linked};
 ghost use Rattle.findings.specs.Endings.{had_ended, was_issued, result_in, ending_of, is_error, is_less, is_reported_apart, severs, next_in, has_next, leaves_chain, is_of, has_idle_field, comes_as, ended_test, queued_test};
 ghost use Rattle.findings.specs.Completions.{is_severing, cancels};
-ghost use Rattle.findings.specs.Records.{continues, noted};
+ghost use Rattle.findings.specs.Records.{continues, depends_on_others, is_notable, noted};
 
 use crate::circumstances::{is_named, is_short_of_end, is_verdict, severs_others, was_ready};
+use crate::completed::Completed;
 use crate::leftover::row_at;
 use crate::transition::Transition;
 use crate::twins::has_twin;
@@ -147,6 +148,28 @@ pub(crate) fn is_severing(before: &Option<Row>, row: &Row) -> bool
     }
 }
 
+/// Returns whether a finding about the completion of the request can depend on other requests that
+/// the event completes: the request was canceled, or it severs its chain.
+pub(crate) fn depends_on_others(before: &Option<Row>, row: &Row) -> bool
+    ensures { result ≡ depends_on_others before.now row.now }
+{
+    match ending_of(before, row) {
+        Some(res) => is_canceled(res) || severs(before, row, res),
+        None => false,
+    }
+}
+
+/// Returns whether the event completes the request, and that can be a finding: with an error, or
+/// short.
+pub(crate) fn ends_notably(before: &Option<Row>, row: &Row) -> bool
+    ensures { result ≡ option_map_or (is_notable row.now) (ending_of before.now row.now) false }
+{
+    match ending_of(before, row) {
+        Some(res) => res < 0 || (is_bad(row, res) || is_short(row, res)),
+        None => false,
+    }
+}
+
 fn is_canceled_now(before: &Option<Row>, row: &Row) -> bool
     ensures { result ≡ option_map_or (is_error 125) (ending_of before.now row.now) false }
 {
@@ -223,13 +246,14 @@ fn has_timed_out(row: &Row, res: i32) -> bool
 fn is_of(
     kind: EndedKind,
     at: Transition<'_>,
+    completed: &Completed,
     before: &Option<Row>,
     number: u32,
     row: &Row,
     res: i32,
 ) -> bool
-    ensures { result ≡ is_of kind (noted at.entry.setup.now at.entry.completed.now.severing.items
-        at.entry.completed.now.canceled.items at.entry.before at.entry.event at.entry.state.now
+    ensures { result ≡ is_of kind (noted at.entry.setup.now completed.now.severing.items
+        completed.now.canceled.items at.entry.before at.entry.event at.entry.state.now
         number row.now) before.now row.now (next_in at.entry.state.now.table number) res }
 {
     match kind {
@@ -237,8 +261,8 @@ fn is_of(
         EndedKind::Short(verdict) => {
             is_short(row, res) && is_verdict(verdict, is_short_of_end(at, row))
         }
-        EndedKind::Severed => severs(before, row, res) && severs_others(at, number, row),
-        EndedKind::Canceled => is_canceled(res) && !is_named(at, number, row),
+        EndedKind::Severed => severs(before, row, res) && severs_others(at, completed, number, row),
+        EndedKind::Canceled => is_canceled(res) && !is_named(at, completed, number, row),
         EndedKind::TimedOut(verdict) => {
             has_timed_out(row, res) && is_verdict(verdict, was_ready(at, number, row))
         }
@@ -280,17 +304,18 @@ fn comes_as(kind: QueuedKind, state: &State, number: u32, row: &Row) -> bool
 pub(crate) fn ended_test(
     kind: EndedKind,
     at: Transition<'_>,
+    completed: &Completed,
     before: &Option<Row>,
     number: u32,
     row: &Row,
 ) -> bool
     ensures { result ≡ ended_test kind (noted at.entry.setup.now
-        at.entry.completed.now.severing.items at.entry.completed.now.canceled.items
+        completed.now.severing.items completed.now.canceled.items
         at.entry.before at.entry.event at.entry.state.now number row.now) before.now
         at.entry.state.now.table number row.now }
 {
     match ending_of(before, row) {
-        Some(res) => is_of(kind, at, before, number, row, res),
+        Some(res) => is_of(kind, at, completed, before, number, row, res),
         None => false,
     }
 }

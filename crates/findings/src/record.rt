@@ -7,10 +7,11 @@ ghost use Rattle.finding_kinds.specs.Programs.{instruction_at};
 ghost use Rattle.findings.specs.Records.{given, noted, of_ended, of_queued, of_row, row_in, of_overflow, of_instruction, of_step, of_canceling, of_cancel, of_candidate, of_number, of_conflicts, of_effect};
 
 use crate::canceling::{Cancel, is_of_cancel};
-use crate::conditions::{is_of_step, overflows};
+use crate::completed::Completed;
+use crate::conditions::{is_of_step, is_plain, overflows};
 use crate::conflicts::conflicts;
 use crate::effect::Effect;
-use crate::ends::{ended_test, queued_test};
+use crate::ends::{ended_test, ends_notably, queued_test};
 use crate::leftover::row_at;
 use crate::timespecs::add_of_timespecs;
 use crate::transition::Transition;
@@ -40,22 +41,30 @@ pub(crate) fn add_if(
 fn add_of_ended(
     found: &mut Vec<Finding>,
     at: Transition<'_>,
+    completed: &Completed,
     before: &Option<Row>,
     number: u32,
     row: &Row,
 ) -> Result<(), AllocError>
     ensures { OnOk result (found.new.items ≡ found.old.items ++ of_ended at.entry.moment
-        (noted at.entry.setup.now at.entry.completed.now.severing.items
-        at.entry.completed.now.canceled.items at.entry.before at.entry.event at.entry.state.now
+        (noted at.entry.setup.now completed.now.severing.items
+        completed.now.canceled.items at.entry.before at.entry.event at.entry.state.now
         number row.now) before.now at.entry.state.now.table number row.now) }
 {
+    if !ends_notably(before, row) {
+        return Ok(());
+    }
     for kind in EndedKind::ALL {
         let finding = Finding {
             moment: at.moment,
             kind: Kind::Ended(kind),
             subject: number,
         };
-        add_if(found, ended_test(kind, at, before, number, row), finding)?;
+        add_if(
+            found,
+            ended_test(kind, at, completed, before, number, row),
+            finding,
+        )?;
     }
     Ok(())
 }
@@ -71,6 +80,9 @@ fn add_of_queued(
     ensures { OnOk result (found.new.items ≡ found.old.items ++ of_queued at.entry.moment
         before.now at.entry.state.now.table number row.now) }
 {
+    if before.is_some() {
+        return Ok(());
+    }
     for kind in QueuedKind::ALL {
         let finding = Finding {
             moment: at.moment,
@@ -90,16 +102,17 @@ fn add_of_queued(
 pub(crate) fn add_of_row(
     found: &mut Vec<Finding>,
     at: Transition<'_>,
+    completed: &Completed,
     before: &Option<Row>,
     number: u32,
     row: &Row,
 ) -> Result<(), AllocError>
     ensures { OnOk result (found.new.items ≡ found.old.items ++ of_row at.entry.moment
-        (noted at.entry.setup.now at.entry.completed.now.severing.items
-        at.entry.completed.now.canceled.items at.entry.before at.entry.event at.entry.state.now
+        (noted at.entry.setup.now completed.now.severing.items
+        completed.now.canceled.items at.entry.before at.entry.event at.entry.state.now
         number row.now) before.now at.entry.state.now.table number row.now) }
 {
-    add_of_ended(found, at, before, number, row)?;
+    add_of_ended(found, at, completed, before, number, row)?;
     add_of_queued(found, at, before, number, row)
 }
 
@@ -140,6 +153,9 @@ fn add_of_instruction(
     ensures { OnOk result (found.new.items ≡ found.old.items ++ of_instruction at.entry.moment
         at.entry.before.changes instruction.now at.entry.state.now thread) }
 {
+    if is_plain(at.before.changes, instruction, at.state, thread) {
+        return Ok(());
+    }
     for kind in StepKind::ALL {
         let finding = Finding {
             moment: at.moment,

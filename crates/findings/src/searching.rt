@@ -11,12 +11,11 @@ ghost use Rattle.finding_kinds.specs.Programs.{instruction_at};
 ghost use Rattle.findings.specs.Findings.{IsReportOf};
 ghost use Rattle.findings.specs.Conditions.{overflows};
 ghost use Rattle.findings.specs.Conflicts.{done_as};
-ghost use Rattle.findings.specs.Records.{noted, of_change, of_overflow, of_step, of_cancel, of_effect, after_notes, all_at_end};
+ghost use Rattle.findings.specs.Records.{noted_by, of_change, of_overflow, of_step, of_cancel, of_effect, after_notes, all_at_end};
 ghost use Rattle.findings.specs.Watched.{of_lasting};
 ghost use Rattle.findings.specs.Searching.{NotesFacts, HasSearched, Halted};
 
 use crate::changes::look_at_record;
-use crate::completed::completed_by;
 use crate::conditions::{Before, overflows, slot_met};
 use crate::effect::done_as;
 use crate::leftover::add_all_left;
@@ -27,7 +26,7 @@ use crate::suspects::{Durability, follow_files};
 use crate::transition::Transition;
 use crate::unsynced::add_all_unsynced;
 use crate::verdicts::judge;
-use crate::watching::{Watch, add_all_lasting, advance, watches_of};
+use crate::watching::{Watch, add_all_lasting, advance, begin, watches_of};
 use finding_kinds::{Finding, History};
 use machine::{Event, Setup, State};
 use places::Record;
@@ -45,6 +44,7 @@ pub struct Search {
     watches: Vec<Watch>,
     /// The WRITEs and FSYNCs, and what became durable.
     files: Durability,
+    keeps_history: bool,
     history: History,
 }
 
@@ -71,8 +71,11 @@ fn add_effects(
     add_of_effect(found, at, &effect, numbers)
 }
 
-// Records the history of an event that sentences need.
+// Records the history of an event that sentences need, if the search keeps it.
 fn note(at: Transition<'_>, history: &mut History) -> Result<(), AllocError> {
+    if !at.keeps_history {
+        return Ok(());
+    }
     note_counter(&mut history.counters, at.before.counter)?;
     let slot = slot_met(at.setup, at.state, at.event, at.before);
     note_slot(&mut history.slots, at.moment, slot)?;
@@ -88,12 +91,12 @@ fn note(at: Transition<'_>, history: &mut History) -> Result<(), AllocError> {
 }
 
 // Adds all findings of an event, and records its history.
-fn look(at: Transition<'_>, past: &Record, search: &mut Search) -> Result<(), AllocError>
+fn look(at: Transition<'_>, search: &mut Search) -> Result<(), AllocError>
     ensures added { OnOk result (search.new.found.items
         ≡ ((search.old.found.items
-        ++ flat_map (of_change at.entry.moment (noted at.entry.setup.now
-        at.entry.completed.now.severing.items at.entry.completed.now.canceled.items
-        at.entry.before at.entry.event at.entry.state.now) at.entry.state.now.table) past.now)
+        ++ flat_map (of_change at.entry.moment (noted_by at.entry.setup.now
+        at.entry.past.now at.entry.before at.entry.event at.entry.state.now)
+        at.entry.state.now.table) at.entry.past.now)
         ++ (of_overflow at.entry.moment at.entry.before.overflows (overflows at.entry.state.now)
         ++ (of_step at.entry.moment at.entry.before.changes
         (instruction_at at.entry.setup.now at.entry.event at.entry.before.counter)
@@ -103,15 +106,15 @@ fn look(at: Transition<'_>, past: &Record, search: &mut Search) -> Result<(), Al
         (done_as at.entry.event
         (instruction_at at.entry.setup.now at.entry.event at.entry.before.counter)
         at.entry.state.now) search.new.numbers.items) }
-    ensures once { OnOk result (NamesOnce past.now) }
+    ensures once { OnOk result (NamesOnce at.entry.past.now) }
     ensures further { OnOk result (search.new.numbers.items
-        ≡ after_notes (view at.entry.state.now) search.old.numbers.items past.now) }
+        ≡ after_notes (view at.entry.state.now) search.old.numbers.items at.entry.past.now) }
     ensures watches { search.new.watches ≡ search.old.watches }
     ensures files { search.new.files ≡ search.old.files }
 {
     note(at, &mut search.history)?;
     let rows = &mut search.history.rows;
-    look_at_record(&mut search.found, &mut search.numbers, rows, at, past)?;
+    look_at_record(&mut search.found, &mut search.numbers, rows, at)?;
     add_of_event(&mut search.found, at)?;
     add_effects(at, &mut search.found, &search.numbers)
 }
@@ -147,6 +150,30 @@ fn add_end(
 }
 
 impl Search {
+    fn start(
+        alloc: Global,
+        setup: &Setup,
+        state: &State,
+        keeps_history: bool,
+    ) -> Result<Search, AllocError>
+        requires starts { state.now ≡ start setup.now }
+        ensures { IfOk result (λ search. (es : List Event) → length es ≤ 1048576 →
+            HasSearched setup.now es 0 search.found.items search.numbers.items
+            search.watches.items search.files.writes.items search.files.suspects.items
+            search.files.retried.items) }
+    {
+        let mut watches = watches_of(alloc, setup)?;
+        begin(setup, state, &mut watches);
+        Ok(Search {
+            found: Vec::new(alloc),
+            numbers: Vec::new(alloc),
+            watches,
+            files: Durability::new(alloc, setup)?,
+            keeps_history,
+            history: History::new(alloc),
+        })
+    }
+
     /// Returns a search that has seen no event of a run, from the state at the run's start.
     pub fn new(alloc: Global, setup: &Setup, state: &State) -> Result<Search, AllocError>
         requires starts { state.now ≡ start setup.now }
@@ -155,15 +182,23 @@ impl Search {
             search.watches.items search.files.writes.items search.files.suspects.items
             search.files.retried.items) }
     {
-        let mut watches = watches_of(alloc, setup)?;
-        advance(setup, state, 0, &mut watches);
-        Ok(Search {
-            found: Vec::new(alloc),
-            numbers: Vec::new(alloc),
-            watches,
-            files: Durability::new(alloc, setup)?,
-            history: History::new(alloc),
-        })
+        Search::start(alloc, setup, state, true)
+    }
+
+    /// Returns such a search that leaves out the history, which only sentences need. It finds the
+    /// same, at less cost.
+    pub fn without_history(
+        alloc: Global,
+        setup: &Setup,
+        state: &State,
+    ) -> Result<Search, AllocError>
+        requires starts { state.now ≡ start setup.now }
+        ensures { IfOk result (λ search. (es : List Event) → length es ≤ 1048576 →
+            HasSearched setup.now es 0 search.found.items search.numbers.items
+            search.watches.items search.files.writes.items search.files.suspects.items
+            search.files.retried.items) }
+    {
+        Search::start(alloc, setup, state, false)
     }
 
     /// Returns the findings of a run of which the search has seen all events, given the state at
@@ -213,19 +248,19 @@ impl Observer for Search {
 
     fn after(&mut self, at: Observed<'_>, past: &Record, note: Before) -> Result<(), AllocError> {
         let moment = at.index as u32;
-        let alloc = *self.found.allocator();
-        let completed = completed_by(alloc, at.state, past)?;
+        let _clock = at.state.clock();
         let done = Transition {
             setup: at.setup,
             moment,
             event: at.event,
             before: note,
             state: at.state,
-            completed: &completed,
+            past,
+            keeps_history: self.keeps_history,
         };
-        look(done, past, self)?;
+        look(done, self)?;
         follow_files(done, &mut self.files, &mut self.history.retries)?;
-        advance(at.setup, at.state, moment + 1, &mut self.watches);
+        advance(at.setup, at.event, at.state, moment + 1, &mut self.watches);
         Ok(())
     }
 }

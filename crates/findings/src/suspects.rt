@@ -4,7 +4,7 @@ ghost use Rattle.std.specs.Prelude.{◌≡◌, ℕ, ◌<◌, ◌++◌, ◌&&◌,
 ghost use Rattle.std.specs.Option.{option_to_list};
 ghost use Rattle.bit_sets.specs.Sets.{has};
 ghost use Rattle.findings.specs.Durability.{is_volatile_at, is_within, moves, completed_by};
-ghost use Rattle.findings.specs.Suspects.{is_marked, is_fsync_of, TellsMarked, AddsRetried, Follows};
+ghost use Rattle.findings.specs.Suspects.{is_marked, is_fsync_of, SaysMarked, AddsRetried, Follows};
 
 use crate::effect::Effect;
 use crate::record::add_if;
@@ -84,7 +84,7 @@ fn has_number(bytes: &BitSet) -> bool
 
 // Returns whether a file has a suspect byte.
 fn has_suspect(suspects: &[BitSet], file: u32) -> bool
-    ensures { TellsMarked result suspects.now file }
+    ensures { SaysMarked result suspects.now file }
 {
     match suspects.get(file as usize) {
         Some(bytes) => has_number(bytes),

@@ -1,8 +1,8 @@
 //! An event that was done, with the facts before it and the state after it.
 
-use crate::completed::Completed;
 use crate::conditions::Before;
 use machine::{Event, Setup, State};
+use places::Record;
 
 /// An event that was done.
 #[derive(Clone, Copy)]
@@ -15,6 +15,8 @@ pub(crate) struct Transition<'a> {
     pub before: Before,
     /// The state after it.
     pub state: &'a State,
-    /// The requests that it completes.
-    pub completed: &'a Completed,
+    /// Its undo record.
+    pub past: &'a Record,
+    /// The search records the history that sentences need.
+    pub keeps_history: bool,
 }

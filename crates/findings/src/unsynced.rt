@@ -2,7 +2,7 @@
 ghost use Rattle.std.specs.Prelude.{◌≡◌, ℕ, ◌++◌, ◌<◌, ◌≤◌, Some, true, false, OnOk, MatchBool};
 ghost use Rattle.places.specs.declared.place.Place.TheVariants.{FileByte, DurableByte};
 ghost use Rattle.machine.specs.Whole.{view};
-ghost use Rattle.findings.specs.AtEnd.{fault_if, is_fsync_of, has_fsync};
+ghost use Rattle.findings.specs.AtEnd.{fault_if, syncs, has_fsync};
 ghost use Rattle.findings.specs.Conditions.{has_unsynced};
 ghost use Rattle.findings.specs.Conflicts.{file_of, are_one};
 ghost use Rattle.findings.specs.Records.{of_object, all_unsynced};
@@ -51,8 +51,8 @@ fn has_unsynced(state: &State, object: u32) -> bool
 }
 
 // Returns whether a request is an FSYNC of the file.
-fn is_fsync_of(setup: &Setup, object: u32, row: &Row) -> bool
-    ensures { result ≡ is_fsync_of setup.now object row.now }
+fn syncs(setup: &Setup, object: u32, row: &Row) -> bool
+    ensures { result ≡ syncs setup.now object row.now }
 {
     if row.entry.opcode != Op::Fsync as u8 {
         return false;
@@ -71,7 +71,7 @@ fn has_fsync(setup: &Setup, state: &State, object: u32) -> bool
     for number in 0..MOST_ROWS {
         match row_at(state, number) {
             Some(row) => {
-                if is_fsync_of(setup, object, &row) {
+                if syncs(setup, object, &row) {
                     return true;
                 }
             }

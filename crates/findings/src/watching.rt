@@ -1,12 +1,13 @@
 //! Conditions that are findings if they last to the end, with the moment since when each holds.
 ghost use Rattle.std.specs.Prelude.{◌≡◌, ◌++◌, map, IfOk, OnOk};
 ghost use Rattle.std.specs.List.{flat_map};
+ghost use Rattle.scenario.specs.declared.setup.Setup.{Setup};
 ghost use Rattle.findings.specs.AtEnd.{fault_if, reported_as};
-ghost use Rattle.findings.specs.Watched.{continued, advanced, of_rings, watched, fresh, numbers_below, of_kind, of_lasting};
+ghost use Rattle.findings.specs.Watched.{next_of, moved_by, next_after, AreNext, continued, advanced, of_rings, watched, fresh, numbers_below, of_kind, of_lasting};
 
-use crate::conditions::{Condition, condition_holds};
+use crate::conditions::{Condition, Next, condition_holds, next_of};
 use finding_kinds::{Finding, Kind, LastingKind, Verdict};
-use machine::{Setup, State};
+use machine::{Event, Setup, State};
 use std::alloc::{AllocError, Global};
 
 /// A condition, and since which moment it has held; None if it doesn't hold.
@@ -15,6 +16,8 @@ pub struct Watch {
     pub condition: Condition,
     /// The thread in question, or 0 for the rings.
     pub subject: u32,
+    /// What the thread in question does next; of the rings, thread 0.
+    pub next: Next,
     pub since: Option<u32>,
 }
 
@@ -30,27 +33,75 @@ fn continued(holds: bool, since: Option<u32>, moment: u32) -> Option<u32>
     }
 }
 
-// Updates one condition for the next moment.
-fn advanced(setup: &Setup, state: &State, moment: u32, watch: Watch) -> Watch
-    ensures { result ≡ advanced setup.now state.now moment watch }
+// Returns the thread that a step moved on, and what it does next, after the event.
+fn moved_by(setup: &Setup, event: Event, state: &State) -> Option<(u32, Next)>
+    ensures { result ≡ moved_by setup.now event state.now }
 {
+    match event {
+        Event::Step(thread) => Some((thread, next_of(setup, state, thread))),
+        _ => None,
+    }
+}
+
+// Returns what the thread of a condition does next, after a step moved a thread on.
+fn next_after(moved: Option<(u32, Next)>, watch: Watch) -> Next
+    ensures { result ≡ next_after moved watch }
+{
+    match moved {
+        Some((thread, next)) if thread == watch.subject => next,
+        _ => watch.next,
+    }
+}
+
+// Updates one condition for the next moment.
+fn advanced(moved: Option<(u32, Next)>, state: &State, moment: u32, watch: Watch) -> Watch
+    ensures { (s : Setup) → next_after moved watch ≡ next_of s state.now watch.subject →
+        result ≡ advanced s state.now moment watch }
+{
+    let next = next_after(moved, watch);
     Watch {
         condition: watch.condition,
         subject: watch.subject,
+        next,
         since: continued(
-            condition_holds(setup, watch.condition, state, watch.subject),
+            condition_holds(watch.condition, state, watch.subject, next),
             watch.since,
             moment,
         ),
     }
 }
 
-/// Updates all conditions for the next moment.
-pub(crate) fn advance(setup: &Setup, state: &State, moment: u32, watches: &mut [Watch])
+/// Updates all conditions after an event, for the next moment. Costs a few instructions for each
+/// condition, since an event changes what at most one thread does next.
+pub(crate) fn advance(
+    setup: &Setup,
+    event: Event,
+    state: &State,
+    moment: u32,
+    watches: &mut [Watch],
+)
+    requires { AreNext setup.now event state.now watches.old }
     ensures { watches.new ≡ map (advanced setup.now state.now moment) watches.old }
 {
+    let moved = moved_by(setup, event, state);
     for watch in watches.iter_mut() {
-        *watch = advanced(setup, state, moment, *watch);
+        *watch = advanced(moved, state, moment, *watch);
+    }
+}
+
+fn begun(setup: &Setup, state: &State, watch: Watch) -> Watch
+    ensures { result ≡ advanced setup.now state.now 0 watch }
+{
+    let next = next_of(setup, state, watch.subject);
+    advanced(Some((watch.subject, next)), state, 0, watch)
+}
+
+/// Updates all conditions at the start of a run.
+pub(crate) fn begin(setup: &Setup, state: &State, watches: &mut [Watch])
+    ensures { watches.new ≡ map (advanced setup.now state.now 0) watches.old }
+{
+    for watch in watches.iter_mut() {
+        *watch = begun(setup, state, *watch);
     }
 }
 
@@ -60,6 +111,7 @@ fn fresh(condition: Condition, subject: u32) -> Watch
     Watch {
         condition,
         subject,
+        next: Next::Other,
         since: None,
     }
 }
@@ -116,7 +168,7 @@ fn reported_as(condition: Condition, over: bool) -> Option<LastingKind>
 {
     match (condition, over) {
         (Condition::Waits, _) => Some(LastingKind::Waits(fault_if(over))),
-        (Condition::LostWakeUp, _) => Some(LastingKind::LostWakeUp),
+        (Condition::LostWakeUp, _) => Some(LastingKind::LostWakeUp(fault_if(over))),
         (Condition::NotTaken, _) => Some(LastingKind::NotTaken(fault_if(over))),
         (Condition::NotReaped, _) => Some(LastingKind::NotReaped),
         (Condition::Stuck, true) => Some(LastingKind::Stuck),

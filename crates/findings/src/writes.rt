@@ -115,7 +115,7 @@ pub(crate) fn fsync_of(setup: &Setup, outcome: i32, effect: &Effect) -> Option<F
 
 // Returns whether a byte of a file is after the end of the durable contents, or differs from its
 // durable value.
-fn is_behind(state: &State, object: u32, durable: u64, at: u32) -> bool
+fn is_volatile_byte(state: &State, object: u32, durable: u64, at: u32) -> bool
     ensures { result ≡ (nat_le durable at || differ (byte_in (view state.now (FileByte object at)))
         (byte_in (view state.now (DurableByte object at)))) }
 {
@@ -123,12 +123,12 @@ fn is_behind(state: &State, object: u32, durable: u64, at: u32) -> bool
 }
 
 // Returns whether a byte of a file is in a set or isn't durable.
-fn is_in_or_behind(bytes: &BitSet, state: &State, object: u32, durable: u64, at: u32) -> bool
+fn is_in_or_volatile(bytes: &BitSet, state: &State, object: u32, durable: u64, at: u32) -> bool
     ensures { result ≡ (has bytes.now at || (nat_le durable at
         || differ (byte_in (view state.now (FileByte object at)))
         (byte_in (view state.now (DurableByte object at))))) }
 {
-    bytes.contains(at as usize) || is_behind(state, object, durable, at)
+    bytes.contains(at as usize) || is_volatile_byte(state, object, durable, at)
 }
 
 // Adds the bytes that are not durable to a set, given the two lengths of the file.
@@ -146,7 +146,7 @@ fn mark_below(
 {
     for at in 0..len {
         bytes.make_room(at as usize)?;
-        let member = is_in_or_behind(bytes, state, object, durable, at as u32);
+        let member = is_in_or_volatile(bytes, state, object, durable, at as u32);
         bytes.write(at as usize, member);
     }
     Ok(())

@@ -98,7 +98,7 @@ fn lasting_sentence(
 ) -> Result<String, AllocError> {
     match kind {
         LastingKind::Waits(verdict) => rings::waits(alloc, run, verdict, thread, since),
-        LastingKind::LostWakeUp => rings::lost_wake_up(alloc, run),
+        LastingKind::LostWakeUp(verdict) => rings::lost_wake_up(alloc, run, verdict),
         LastingKind::NotTaken(verdict) => rings::not_taken(alloc, run, verdict),
         LastingKind::NotReaped => rings::not_reaped(alloc, run),
         LastingKind::Stuck => rings::stuck(alloc, run, thread),

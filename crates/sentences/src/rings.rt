@@ -281,10 +281,15 @@ pub(crate) fn stuck(alloc: Global, run: &Run<'_>, thread: u32) -> Result<String,
 }
 
 /// Returns the sentence of a poller that sleeps while the submission ring has entries.
-pub(crate) fn lost_wake_up(alloc: Global, run: &Run<'_>) -> Result<String, AllocError> {
+pub(crate) fn lost_wake_up(
+    alloc: Global,
+    run: &Run<'_>,
+    verdict: Verdict,
+) -> Result<String, AllocError> {
     let entries = Counted::entries(entries(run));
+    let end = cut_off(verdict);
     format!(in alloc;
-        "The poller sleeps to the end of the run, with NEED_WAKEUP set in sq.flags, and the submission ring has {entries}. After writing the tail, check sq.flags, and enter with IORING_ENTER_SQ_WAKEUP {POLLER_RULE}."
+        "The poller sleeps to the end of the run, with NEED_WAKEUP set in sq.flags, and the submission ring has {entries}. After writing the tail, check sq.flags, and enter with IORING_ENTER_SQ_WAKEUP {POLLER_RULE}.{end}"
     )
 }
 

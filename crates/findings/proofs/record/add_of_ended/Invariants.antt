@@ -7,4 +7,4 @@ use Rattle.findings.specs.Records.{noted, of_group}
 use Rattle.findings.proofs.record.add_of_ended.Given as goal
 
 abbrev pub invariant-loop-kind : goal.invariant-loop-kind
-invariant-loop-kind l = l.found.items ≡ l.fn.found.items ++ of_group Ended (λ (kind : EndedKind). ended_test kind (noted l.at.setup.now l.at.completed.now.severing.items l.at.completed.now.canceled.items l.at.before l.at.event l.at.state.now l.number l.row) l.before l.at.state.now.table l.number l.row) l.at.moment l.number (take l.kind-index ended_kinds)
+invariant-loop-kind l = l.found.items ≡ l.fn.found.items ++ of_group Ended (λ (kind : EndedKind). ended_test kind (noted l.at.setup.now l.completed.severing.items l.completed.canceled.items l.at.before l.at.event l.at.state.now l.number l.row) l.before l.at.state.now.table l.number l.row) l.at.moment l.number (take l.kind-index ended_kinds)

@@ -2,7 +2,7 @@ use Rattle.std.proofs.Common.{◌≡◌, ◌≤◌, Bool, length, sym, ap, ◌�
 use Rattle.std.specs.Prelude.{Option, Some, false}
 use Rattle.std.specs.Option.{option_map_or}
 use Rattle.entries.specs.declared.row.Row.{Row}
-use Rattle.findings.specs.AtEnd.{is_fsync_of}
+use Rattle.findings.specs.AtEnd.{syncs}
 use Rattle.findings.proofs.Looking.{any_here, any_none, none_more}
 use Rattle.findings.proofs.Members.{none_after}
 use Rattle.findings.proofs.unsynced.has_fsync.Goals as goal
@@ -12,18 +12,18 @@ passing test o row b e t = ap (λ (x : Option Row). option_map_or test x false) 
 
 pub loop-number-preserved : goal.loop-number-preserved
 loop-number-preserved c =
-    none_more (is_fsync_of c.args.setup.now c.args.object) _ c.loop-number.number c.loop-number.invariant
-    (passing (is_fsync_of c.args.setup.now c.args.object) _ c.in-Some.row _ c.in-Some.ensures.row (sym c.is_fsync_of.ensures ∙ c.if-is_fsync_of.false))
+    none_more (syncs c.args.setup.now c.args.object) _ c.loop-number.number c.loop-number.invariant
+    (passing (syncs c.args.setup.now c.args.object) _ c.in-Some.row _ c.in-Some.ensures.row (sym c.syncs.ensures ∙ c.if-syncs.false))
 
-pub returns-then-is_fsync_of : goal.returns-then-is_fsync_of
-returns-then-is_fsync_of c =
-    sym (any_here (is_fsync_of c.args.setup.now c.args.object) _ c.loop-number.number (passing (is_fsync_of c.args.setup.now c.args.object) _ c.in-Some.row _ c.in-Some.ensures.row (sym c.is_fsync_of.ensures ∙ c.if-is_fsync_of.true)))
+pub returns-then-syncs : goal.returns-then-syncs
+returns-then-syncs c =
+    sym (any_here (syncs c.args.setup.now c.args.object) _ c.loop-number.number (passing (syncs c.args.setup.now c.args.object) _ c.in-Some.row _ c.in-Some.ensures.row (sym c.syncs.ensures ∙ c.if-syncs.true)))
 
 pub returns-in-None : goal.returns-in-None
 returns-in-None c =
-    sym (any_none (is_fsync_of c.args.setup.now c.args.object) _ c.loop-number.number c.loop-number.invariant (none_after _ c.loop-number.number (sym c.in-None.ensures.row)))
+    sym (any_none (syncs c.args.setup.now c.args.object) _ c.loop-number.number c.loop-number.invariant (none_after _ c.loop-number.number (sym c.in-None.ensures.row)))
 
 pub returns : goal.returns
 returns c =
     let l : length c.args.state.now.table ≤ c.loop-number.number = omega (arith, c.row_at-first.ensures.few) in
-    sym (any_none (is_fsync_of c.args.setup.now c.args.object) _ c.loop-number.number c.loop-number.invariant l)
+    sym (any_none (syncs c.args.setup.now c.args.object) _ c.loop-number.number c.loop-number.invariant l)

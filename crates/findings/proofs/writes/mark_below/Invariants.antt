@@ -1,8 +1,8 @@
 use Rattle.std.proofs.Common.{◌≡◌, ◌*◌, ◌≤◌, ℕ, length}
 use Rattle.std.specs.Prelude.{nat_lt, ◌&&◌, ◌||◌}
 use Rattle.bit_sets.specs.Sets.{has}
-use Rattle.findings.proofs.Marks.{is_behind}
+use Rattle.findings.proofs.Marks.{is_volatile_byte}
 use Rattle.findings.proofs.writes.mark_below.Given as goal
 
 abbrev pub invariant-loop-at : goal.invariant-loop-at
-invariant-loop-at l = ((k : ℕ) → has l.bytes k ≡ (has l.fn.bytes k || (nat_lt k l.at && is_behind l.state l.object l.durable k))) × (l.at ≤ 64 * length l.bytes)
+invariant-loop-at l = ((k : ℕ) → has l.bytes k ≡ (has l.fn.bytes k || (nat_lt k l.at && is_volatile_byte l.state l.object l.durable k))) × (l.at ≤ 64 * length l.bytes)

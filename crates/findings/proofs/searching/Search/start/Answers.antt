@@ -3,7 +3,7 @@ use Rattle.findings.specs.Watched.{advanced}
 use Rattle.findings.proofs.Followed.{seen_none}
 use Rattle.findings.proofs.Lasting.{mapped_back}
 use Rattle.findings.proofs.Suspecting.{follows_none}
-use Rattle.findings.proofs.searching.Search.new.Goals as goal
+use Rattle.findings.proofs.searching.Search.start.Goals as goal
 
 pub returns : goal.returns
 returns c = λ es most.
@@ -11,5 +11,5 @@ returns c = λ es most.
     let first = advanced c.args.setup.now c.args.state.now 0 in
     let files = c.in_ok-new.ensures in
     seen_none _ es c.args.state.now _ _ _ _ _ _ c.requires.starts c.new.ensures.items
-    (mapped_back first _ _ _ _ _ c.deref_mut.ensures.value c.advance.ensures (omega (arith, len)) ∙ ap (map first) c.in_ok-watches.ensures) most
+    (mapped_back first _ _ _ _ _ c.deref_mut.ensures.value c.begin.ensures (omega (arith, len)) ∙ ap (map first) c.in_ok-watches.ensures) most
     (follows_none c.args.setup.now es _ _ _ files.writes files.count files.none files.retried)

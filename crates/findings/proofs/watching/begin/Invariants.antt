@@ -1,0 +1,6 @@
+use Rattle.std.proofs.Common.{◌≡◌, ◌++◌, take, drop, map}
+use Rattle.findings.specs.Watched.{advanced}
+use Rattle.findings.proofs.watching.begin.Given as goal
+
+abbrev pub invariant-loop-watch : goal.invariant-loop-watch
+invariant-loop-watch l = l.watches ≡ map (advanced l.setup l.state 0) (take l.watch-index l.fn.watches) ++ drop l.watch-index l.fn.watches
