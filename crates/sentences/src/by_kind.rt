@@ -7,7 +7,8 @@ use crate::run::Run;
 use crate::uses::UserPhase;
 use crate::{cancels, chains, conflicts, durable, errors, left, matches, rings, uses};
 use finding_kinds::{
-    CancelKind, ConflictKind, EndedKind, Kind, LastingKind, LeftKind, QueuedKind, StepKind, Verdict,
+    CancelKind, ConflictKind, EndedKind, Finding, Kind, LastingKind, LeftKind, QueuedKind,
+    StepKind, Verdict,
 };
 use std::alloc::{AllocError, Global};
 
@@ -70,109 +71,81 @@ fn timed_out(
     )
 }
 
-fn ended_sentence(
+// Returns the sentence of a finding about a row.
+fn sentence_of_row(
     alloc: Global,
     run: &Run<'_>,
-    kind: EndedKind,
+    kind: Kind,
     about: &About,
 ) -> Result<String, AllocError> {
     match kind {
-        EndedKind::Failed => errors::failed(alloc, run, about),
-        EndedKind::Short(_) => short(alloc, run, about),
-        EndedKind::Severed => chains::severed(alloc, run, about),
-        EndedKind::Canceled => chains::canceled(alloc, run, about),
-        EndedKind::TimedOut(verdict) => timed_out(alloc, run, verdict, about),
-        EndedKind::Expired => expired(alloc, about),
-        EndedKind::NotFound => cancels::not_found(alloc, run, about),
-        EndedKind::TooLate => cancels::too_late(alloc, run, about),
-        EndedKind::WentOn => chains::went_on(alloc, run, about),
+        Kind::Ended(EndedKind::Failed) => errors::failed(alloc, run, about),
+        Kind::Ended(EndedKind::Short(_)) => short(alloc, run, about),
+        Kind::Ended(EndedKind::Severed) => chains::severed(alloc, run, about),
+        Kind::Ended(EndedKind::Canceled) => chains::canceled(alloc, run, about),
+        Kind::Ended(EndedKind::TimedOut(verdict)) => timed_out(alloc, run, verdict, about),
+        Kind::Ended(EndedKind::Expired) => expired(alloc, about),
+        Kind::Ended(EndedKind::NotFound) => cancels::not_found(alloc, run, about),
+        Kind::Ended(EndedKind::TooLate) => cancels::too_late(alloc, run, about),
+        Kind::Ended(EndedKind::WentOn) => chains::went_on(alloc, run, about),
+        Kind::Left(LeftKind::Unfinished(verdict)) => left::unfinished(alloc, run, verdict, about),
+        Kind::Conflict(ConflictKind::BufferInUse) => conflicts::buffer_in_use(alloc, run, about),
+        Kind::Conflict(ConflictKind::Unordered) => conflicts::unordered(alloc, run, about),
+        Kind::Conflict(ConflictKind::SharedPosition) => conflicts::shared_position(
+            alloc, run, about,
+        ),
+        Kind::Conflict(ConflictKind::FsyncEarly(_)) => conflicts::fsync_early(alloc, run, about),
+        Kind::Queued(QueuedKind::CutOff) => chains::cut_off(alloc, run, about),
+        Kind::Queued(QueuedKind::NoEffect) => errors::no_effect(alloc, about),
+        Kind::Queued(QueuedKind::SameUserData) => matches::same_user_data(alloc, run, about),
+        Kind::Cancel(CancelKind::NoneFound) => cancels::not_found(alloc, run, about),
+        Kind::Cancel(CancelKind::Several) => matches::several(alloc, run, about),
+        Kind::Cancel(CancelKind::LeftRunning) => matches::left_running(alloc, run, about),
+        Kind::FsyncRetried => durable::fsync_retried(alloc, run, about),
+        Kind::Overflow
+        | Kind::Lasting(_)
+        | Kind::Left(LeftKind::NotDurable(_))
+        | Kind::Step(_)
+        | Kind::TimespecInUse => Ok(String::new(alloc)),
     }
 }
 
-fn lasting_sentence(
+// Returns the sentence of a finding about the rings, a thread or an object.
+fn sentence_of_other(
     alloc: Global,
     run: &Run<'_>,
-    kind: LastingKind,
-    thread: u32,
-    since: u32,
+    finding: &Finding,
 ) -> Result<String, AllocError> {
-    match kind {
-        LastingKind::Waits(verdict) => rings::waits(alloc, run, verdict, thread, since),
-        LastingKind::LostWakeUp => rings::lost_wake_up(alloc, run),
-        LastingKind::NotTaken(verdict) => rings::not_taken(alloc, run, verdict),
-        LastingKind::NotReaped => rings::not_reaped(alloc, run),
-        LastingKind::Stuck => rings::stuck(alloc, run, thread),
-    }
-}
-
-fn left_sentence(
-    alloc: Global,
-    run: &Run<'_>,
-    kind: LeftKind,
-    subject: u32,
-) -> Result<String, AllocError> {
-    match kind {
-        LeftKind::Unfinished(verdict) => left::unfinished(alloc, run, verdict, subject),
-        LeftKind::NotDurable(_) => durable::not_durable(alloc, run, subject),
-    }
-}
-
-fn conflict_sentence(
-    alloc: Global,
-    run: &Run<'_>,
-    kind: ConflictKind,
-    about: &About,
-) -> Result<String, AllocError> {
-    match kind {
-        ConflictKind::BufferInUse => conflicts::buffer_in_use(alloc, run, about),
-        ConflictKind::Unordered => conflicts::unordered(alloc, run, about),
-        ConflictKind::SharedPosition => conflicts::shared_position(alloc, run, about),
-        ConflictKind::FsyncEarly(_) => conflicts::fsync_early(alloc, run, about),
-    }
-}
-
-fn step_sentence(
-    alloc: Global,
-    run: &Run<'_>,
-    kind: StepKind,
-    thread: u32,
-    moment: u32,
-) -> Result<String, AllocError> {
-    match kind {
-        StepKind::Busy => rings::busy(alloc, run, thread, moment),
-        StepKind::TakenShort => rings::taken_short(alloc, run, thread, moment),
-        StepKind::NoSuchSlot => rings::no_such_slot(alloc, run, thread, moment),
-        StepKind::SlotInUse => uses::slot_in_use(alloc, run, thread, moment),
-        StepKind::ClosedEarly => uses::closed(alloc, run, thread, moment, UserPhase::Queued),
-        StepKind::ClosedWhileHeld => uses::closed(alloc, run, thread, moment, UserPhase::Issued),
-        StepKind::RefusedFlags => rings::refused_flags(alloc, run, thread, moment),
-        StepKind::ClosedTwice => uses::closed_twice(alloc, run, thread, moment),
-    }
-}
-
-fn queued_sentence(
-    alloc: Global,
-    run: &Run<'_>,
-    kind: QueuedKind,
-    about: &About,
-) -> Result<String, AllocError> {
-    match kind {
-        QueuedKind::CutOff => chains::cut_off(alloc, run, about),
-        QueuedKind::NoEffect => errors::no_effect(alloc, about),
-        QueuedKind::SameUserData => matches::same_user_data(alloc, run, about),
-    }
-}
-
-fn cancel_sentence(
-    alloc: Global,
-    run: &Run<'_>,
-    kind: CancelKind,
-    about: &About,
-) -> Result<String, AllocError> {
-    match kind {
-        CancelKind::NoneFound => cancels::not_found(alloc, run, about),
-        CancelKind::Several => matches::several(alloc, run, about),
-        CancelKind::LeftRunning => matches::left_running(alloc, run, about),
+    let (subject, moment) = (finding.subject, finding.moment);
+    match finding.kind {
+        Kind::Overflow => rings::overflow(alloc, run, moment),
+        Kind::Lasting(LastingKind::Waits(verdict)) => {
+            rings::waits(alloc, run, verdict, subject, moment)
+        }
+        Kind::Lasting(LastingKind::LostWakeUp) => rings::lost_wake_up(alloc, run),
+        Kind::Lasting(LastingKind::NotTaken(verdict)) => rings::not_taken(alloc, run, verdict),
+        Kind::Lasting(LastingKind::NotReaped) => rings::not_reaped(alloc, run),
+        Kind::Lasting(LastingKind::Stuck) => rings::stuck(alloc, run, subject),
+        Kind::Left(LeftKind::NotDurable(_)) => durable::not_durable(alloc, run, subject),
+        Kind::Step(StepKind::Busy) => rings::busy(alloc, run, subject, moment),
+        Kind::Step(StepKind::TakenShort) => rings::taken_short(alloc, run, subject, moment),
+        Kind::Step(StepKind::NoSuchSlot) => rings::no_such_slot(alloc, run, subject, moment),
+        Kind::Step(StepKind::SlotInUse) => uses::slot_in_use(alloc, run, subject, moment),
+        Kind::Step(StepKind::ClosedEarly) => {
+            uses::closed(alloc, run, subject, moment, UserPhase::Queued)
+        }
+        Kind::Step(StepKind::ClosedWhileHeld) => {
+            uses::closed(alloc, run, subject, moment, UserPhase::Issued)
+        }
+        Kind::Step(StepKind::RefusedFlags) => rings::refused_flags(alloc, run, subject, moment),
+        Kind::Step(StepKind::ClosedTwice) => uses::closed_twice(alloc, run, subject, moment),
+        Kind::TimespecInUse => conflicts::timespec_in_use(alloc, run, subject, moment),
+        Kind::Ended(_)
+        | Kind::Left(LeftKind::Unfinished(_))
+        | Kind::Conflict(_)
+        | Kind::Queued(_)
+        | Kind::Cancel(_)
+        | Kind::FsyncRetried => Ok(String::new(alloc)),
     }
 }
 
@@ -181,25 +154,10 @@ pub fn sentence(alloc: Global, run: &Run<'_>, index: usize) -> Result<String, Al
     let Some(finding) = run.found.get(index) else {
         return Ok(String::new(alloc));
     };
-    let (subject, moment) = (finding.subject, finding.moment);
-    match (finding.kind, About::new(run, finding, index)) {
-        (Kind::Overflow, _) => rings::overflow(alloc, run, moment),
-        (Kind::Lasting(kind), _) => lasting_sentence(alloc, run, kind, subject, moment),
-        (Kind::Left(kind), _) => left_sentence(alloc, run, kind, subject),
-        (Kind::Step(kind), _) => step_sentence(alloc, run, kind, subject, moment),
-        (Kind::TimespecInUse, _) => conflicts::timespec_in_use(alloc, run, subject, moment),
-        (Kind::Ended(kind), Some(about)) => ended_sentence(alloc, run, kind, &about),
-        (Kind::Conflict(kind), Some(about)) => conflict_sentence(alloc, run, kind, &about),
-        (Kind::Queued(kind), Some(about)) => queued_sentence(alloc, run, kind, &about),
-        (Kind::Cancel(kind), Some(about)) => cancel_sentence(alloc, run, kind, &about),
-        (Kind::FsyncRetried, Some(about)) => durable::fsync_retried(alloc, run, &about),
-        (
-            Kind::Ended(_)
-            | Kind::Conflict(_)
-            | Kind::Queued(_)
-            | Kind::Cancel(_)
-            | Kind::FsyncRetried,
-            None,
-        ) => Ok(String::new(alloc)),
+    match About::new(run, finding, index) {
+        Some(about) if finding.kind.is_of_row() => {
+            sentence_of_row(alloc, run, finding.kind, &about)
+        }
+        _ => sentence_of_other(alloc, run, finding),
     }
 }

@@ -1,8 +1,8 @@
 //! Sentences about requests that haven't completed at the end.
 
+use crate::about::About;
 use crate::counted::Counted;
 use crate::cut_off::cut_off;
-use crate::names::RowName;
 use crate::rules::{LINK_RULE, LINK_TIMEOUT_RULE, TIMEOUT_RULE};
 use crate::run::Run;
 use crate::waiting::waits;
@@ -218,14 +218,11 @@ pub(crate) fn unfinished(
     alloc: Global,
     run: &Run<'_>,
     verdict: Verdict,
-    number: u32,
+    about: &About,
 ) -> Result<String, AllocError> {
-    let Some(row) = run.row(number) else {
-        return Ok(String::new(alloc));
-    };
-    let name = RowName::new(number, &row);
-    let refusal = run.state.refuses(next_event(number, &row));
-    let reason = reason(alloc, run, number, &row, refusal)?;
+    let name = about.name();
+    let refusal = run.state.refuses(next_event(about.number, &about.row));
+    let reason = reason(alloc, run, about.number, &about.row, refusal)?;
     let end = match refusal {
         Some(_) => cut_off(verdict),
         None => "",
