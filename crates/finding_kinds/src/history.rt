@@ -68,8 +68,8 @@ pub struct Failure {
     pub row: u32,
     /// The moment before the event that completed it.
     pub moment: u32,
-    /// How many bytes of its file were not durable when it failed, and were not written since. Bytes
-    /// that count for an earlier failure don't count again.
+    /// How many bytes of its file were not durable when it failed, and were not written since.
+    /// Bytes that count for an earlier failure don't count again.
     pub bytes: u32,
 }
 

@@ -37,7 +37,7 @@ impl Failures {
         }
     }
 
-    // Makes the suspect bytes that no failure has those of a failure, and returns how many they are.
+    // Makes a failure the cause of the suspect bytes that have none, and returns their number.
     fn claim(&mut self, index: u32, suspects: &BitSet) -> u32 {
         let mut bytes: u32 = 0;
         for at in 0..self.causes.len() {
@@ -92,7 +92,8 @@ impl Failures {
         }
     }
 
-    /// Returns what an FSYNC retries that completes without error at a moment, if bytes are suspect.
+    /// Returns the failures before an FSYNC that completes without error at a moment, if bytes are
+    /// suspect.
     pub fn retry(&self, moment: u32) -> Result<Option<Retry>, AllocError> {
         let mut retry = Retry {
             moment,

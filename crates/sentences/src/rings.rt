@@ -274,8 +274,9 @@ pub(crate) fn waits(
 
 // Returns how many completions the backlog has.
 fn overflowed(run: &Run<'_>) -> u64 {
+    let front = run.number(Place::BacklogFront).min(u64::from(MOST_ROWS)) as u32;
     let mut count: u64 = 0;
-    for index in run.number(Place::BacklogFront) as u32..MOST_ROWS {
+    for index in front..MOST_ROWS {
         if run.state.value(Place::Backlog(index)).is_none() {
             return count;
         }
@@ -296,8 +297,8 @@ fn flushed_before_reap(alloc: Global, run: &Run<'_>) -> Result<String, AllocErro
     )
 }
 
-// Returns what the sentence of a thread that can't push says of the backlog, if that has completions
-// and threads submit the entries.
+// Returns what the sentence of a thread that can't push says of the backlog, if that has
+// completions and threads submit the entries.
 fn flushed_before_submission(alloc: Global, run: &Run<'_>) -> Result<String, AllocError> {
     if !is_overflowing(run) || run.setup.sqpoll {
         return Ok(String::new(alloc));
