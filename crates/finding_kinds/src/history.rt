@@ -68,16 +68,22 @@ pub struct Failure {
     pub row: u32,
     /// The moment before the event that completed it.
     pub moment: u32,
+    /// How many bytes of its file were not durable when it failed, and were not written since.
+    /// Bytes that count for an earlier failure don't count again.
+    pub bytes: u32,
 }
 
-/// An FSYNC that completed without error, at this moment, after one of its file had failed.
-#[derive(Clone, Copy)]
+/// An FSYNC that completed without error, at this moment, though bytes of its file were not written
+/// since FSYNCs of it had failed.
+#[derive(Drop)]
 pub struct Retry {
     pub moment: u32,
-    /// The last FSYNC of the file that had failed.
-    pub failure: Failure,
-    /// How many bytes of the file were not durable when an FSYNC failed, and were not written since.
-    pub bytes: u32,
+    /// The first few of these failures, in order. Each has at least one byte.
+    pub failures: Vec<Failure>,
+    /// How many failures with bytes there are after those.
+    pub more: u32,
+    /// How many bytes they have.
+    pub more_bytes: u32,
 }
 
 /// When requests changed phase, and other facts that sentences refer to.
@@ -105,7 +111,7 @@ pub struct History {
     pub closes: Vec<Closed>,
     /// The incomplete requests that issued LINK_TIMEOUTs limit.
     pub limited: Vec<u32>,
-    /// In the order of their moments, one per FSYNC that was retried.
+    /// In the order of their moments, at most one per moment.
     pub retries: Vec<Retry>,
 }
 

@@ -10,6 +10,7 @@ mod conditions;
 mod conflicts;
 mod effect;
 mod ends;
+mod failures;
 mod files;
 mod following;
 pub mod laws;

@@ -7,13 +7,15 @@ ghost use Rattle.findings.specs.Durability.{is_volatile_at, is_within, moves, co
 ghost use Rattle.findings.specs.Suspects.{is_marked, is_fsync_of, SaysMarked, AddsRetried, Follows};
 
 use crate::effect::Effect;
+use crate::failures::Failures;
 use crate::record::add_if;
 use crate::transition::Transition;
 use crate::writes::{Fsync, Written, completed_by, fsync_of, mark_volatile, written_of};
 use bit_sets::BitSet;
 use entries::EIO;
-use finding_kinds::{Failure, Finding, Kind, Retry};
+use finding_kinds::{Finding, Kind, Retry, number_at};
 use machine::{Setup, State};
+use places::Place;
 use std::alloc::{AllocError, Global};
 
 /// What a search has seen of WRITEs and FSYNCs.
@@ -26,8 +28,8 @@ pub struct Durability {
     pub suspects: Vec<BitSet>,
     /// The findings about FSYNCs that are retried.
     pub retried: Vec<Finding>,
-    /// For each object, its last FSYNC that failed.
-    pub failures: Vec<Option<Failure>>,
+    /// For each object, its FSYNCs that failed.
+    pub failures: Vec<Failures>,
 }
 
 // Returns an empty set for each of some objects.
@@ -42,10 +44,10 @@ fn empty_sets(alloc: Global, objects: usize) -> Result<Vec<BitSet>, AllocError>
     Ok(sets)
 }
 
-fn no_failures(alloc: Global, objects: usize) -> Result<Vec<Option<Failure>>, AllocError> {
+fn no_failures(alloc: Global, objects: usize) -> Result<Vec<Failures>, AllocError> {
     let mut failures = Vec::new(alloc);
     for _object in 0..objects {
-        failures.push(None)?;
+        failures.push(Failures::new(alloc))?;
     }
     Ok(failures)
 }
@@ -114,44 +116,21 @@ fn add_retried(
     Ok(())
 }
 
-// Returns how many numbers a set has.
-fn count_of(bytes: &BitSet) -> u32 {
-    let mut count: u32 = 0;
-    let mut from = 0;
-    while let Some(byte) = bytes.next(from) {
-        count = count.saturating_add(1);
-        let Some(next) = byte.checked_add(1) else {
-            return count;
-        };
-        from = next;
-    }
-    count
-}
-
-// Records the failure before the FSYNC, if its file has suspect bytes.
+// Records the failures before the FSYNC, if its file has suspect bytes.
 fn note_retry(
     retries: &mut Vec<Retry>,
     moment: u32,
     fsync: Option<Fsync>,
-    suspects: &[BitSet],
-    failures: &[Option<Failure>],
+    failures: &[Failures],
 ) -> Result<(), AllocError> {
     let Some(fsync) = fsync else {
         return Ok(());
     };
-    let bytes = match suspects.get(fsync.file as usize) {
-        Some(bytes) => count_of(bytes),
-        None => 0,
-    };
-    if bytes == 0 {
+    let Some(failures) = failures.get(fsync.file as usize) else {
         return Ok(());
-    }
-    if let Some(Some(failure)) = failures.get(fsync.file as usize) {
-        retries.push(Retry {
-            moment,
-            failure: *failure,
-            bytes,
-        })?;
+    };
+    if let Some(retry) = failures.retry(moment)? {
+        retries.push(retry)?;
     }
     Ok(())
 }
@@ -198,18 +177,35 @@ fn forget_written(suspects: &mut Vec<BitSet>, written: Option<Written>)
     );
 }
 
-// ---- FSYNCs that fail
-
-fn note_failure(failures: &mut Vec<Option<Failure>>, moment: u32, fsync: Option<Fsync>) {
-    if let Some(fsync) = fsync {
-        let failure = Some(Failure {
-            row: fsync.row,
-            moment,
-        });
-        if let Some(last) = failures.get_mut(fsync.file as usize) {
-            *last = failure;
+// Removes the bytes that a WRITE moved from those of the FSYNCs that failed.
+fn note_written(failures: &mut Vec<Failures>, written: Option<Written>) {
+    if let Some(written) = written {
+        if let Some(failures) = failures.get_mut(written.file as usize) {
+            failures.forget(written.first, written.count);
         }
     }
+}
+
+// ---- FSYNCs that fail
+
+// Records the FSYNC with the bytes that it made suspect, by the suspect bytes after it.
+fn note_failure(
+    failures: &mut Vec<Failures>,
+    at: Transition<'_>,
+    fsync: Option<Fsync>,
+    suspects: &[BitSet],
+) -> Result<(), AllocError> {
+    let Some(fsync) = fsync else {
+        return Ok(());
+    };
+    let Some(bytes) = suspects.get(fsync.file as usize) else {
+        return Ok(());
+    };
+    let length = number_at(at.state, Place::FileLength(fsync.file)).unwrap_or(0);
+    if let Some(failures) = failures.get_mut(fsync.file as usize) {
+        failures.add(fsync.row, at.moment, bytes, length)?;
+    }
+    Ok(())
 }
 
 // Adds the bytes of the file that are not durable to the suspect bytes.
@@ -247,21 +243,15 @@ fn follow_effect(
         files.new.suspects.items files.old.retried.items files.new.retried.items) }
 {
     let retried = fsync_of(at.setup, 0, effect);
-    note_retry(
-        retries,
-        at.moment,
-        retried,
-        &files.suspects,
-        &files.failures,
-    )?;
+    note_retry(retries, at.moment, retried, &files.failures)?;
     add_retried(&mut files.retried, at.moment, retried, &files.suspects)?;
     let written = written_of(at.setup, at.state, effect);
     add_written(&mut files.writes, written)?;
     forget_written(&mut files.suspects, written);
+    note_written(&mut files.failures, written);
     let failed = fsync_of(at.setup, -EIO, effect);
-    note_failure(&mut files.failures, at.moment, failed);
     suspect_failed(&mut files.suspects, at.state, failed)?;
-    Ok(())
+    note_failure(&mut files.failures, at, failed, &files.suspects)
 }
 
 /// Follows the WRITE or FSYNC that an event completes, if it completes one.

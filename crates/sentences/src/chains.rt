@@ -21,14 +21,14 @@ fn rule_of_link(row: Option<Row>) -> &'static str {
     }
 }
 
-// Lists the other rows of a row's chain that completed with ECANCELED by the same event. The rows
+// Lists the later rows of a row's chain that completed with ECANCELED by the same event. The rows
 // of a chain are consecutive.
 fn canceled_rows(alloc: Global, run: &Run<'_>, about: &About) -> Result<String, AllocError> {
     let mut rows = Listing::new(alloc);
-    for number in about.row.unit..MOST_ROWS {
+    for number in about.number.saturating_add(1)..MOST_ROWS {
         match run.row(number) {
             Some(row) if row.unit == about.row.unit => {
-                if number != about.number && run.is_canceled_at(number, about.moment) {
+                if run.is_canceled_at(number, about.moment) {
                     rows.add(alloc, run, number)?;
                 }
             }

@@ -3,7 +3,7 @@
 use crate::about::About;
 use crate::counted::Counted;
 use crate::run::Run;
-use finding_kinds::{differs_at, number_at};
+use finding_kinds::{Failure, Retry, differs_at, number_at};
 use places::Place;
 use std::alloc::{AllocError, Global};
 
@@ -72,23 +72,58 @@ pub(crate) fn not_durable(alloc: Global, run: &Run<'_>, object: u32) -> Result<S
     )
 }
 
+// Returns what the failures after the first add: a sentence for each that is named, and one for the
+// rest.
+fn further_failures(alloc: Global, run: &Run<'_>, retry: &Retry) -> Result<String, AllocError> {
+    let mut text = String::new(alloc);
+    for Failure { row, moment, bytes } in retry.failures.iter().skip(1) {
+        if let Some(name) = run.name(*row) {
+            let bytes = Counted::bytes(u64::from(*bytes));
+            let adds = format!(in alloc;
+                " The failure of row {name} at event {moment} adds {bytes}."
+            )?;
+            text.push_str(adds.as_str())?;
+        }
+    }
+    if retry.more > 0 {
+        let more = retry.more;
+        let (noun, verb) = if more == 1 {
+            ("failure", "adds")
+        } else {
+            ("failures", "add")
+        };
+        let bytes = Counted::bytes(u64::from(retry.more_bytes));
+        let add = format!(in alloc; " {more} more {noun} {verb} {bytes}.")?;
+        text.push_str(add.as_str())?;
+    }
+    Ok(text)
+}
+
 /// Returns the sentence of an FSYNC that completed without error after one had failed.
 pub(crate) fn fsync_retried(
     alloc: Global,
     run: &Run<'_>,
     about: &About,
 ) -> Result<String, AllocError> {
-    let Some(retried) = run.retried_at(about.moment) else {
+    let Some(retry) = run.retried_at(about.moment) else {
         return Ok(String::new(alloc));
     };
-    let Some(failed) = run.name(retried.failure.row) else {
+    let Some(first) = retry.failures.first() else {
+        return Ok(String::new(alloc));
+    };
+    let Some(failed) = run.name(first.row) else {
         return Ok(String::new(alloc));
     };
     let name = about.name();
-    let event = retried.failure.moment;
-    let bytes = Counted::bytes(u64::from(retried.bytes));
-    let object = if retried.bytes == 1 { "it" } else { "them" };
+    let event = first.moment;
+    let bytes = Counted::bytes(u64::from(first.bytes));
+    let further = further_failures(alloc, run, retry)?;
+    let object = if first.bytes == 1 && further.is_empty() {
+        "it"
+    } else {
+        "them"
+    };
     format!(in alloc;
-        "Row {name} completed with 0 after row {failed} had failed with -5 (EIO) at event {event}, and nothing wrote its {bytes} again. A kernel may have dropped {object} {SYNC_RULE}."
+        "Row {name} completed with 0 after row {failed} had failed with -5 (EIO) at event {event}, and nothing wrote its {bytes} again.{further} A kernel may have dropped {object} {SYNC_RULE}."
     )
 }

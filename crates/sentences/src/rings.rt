@@ -200,7 +200,7 @@ fn has_completed_timeout(run: &Run<'_>, since: u32) -> bool {
 const NAMED_REAPS: usize = 3;
 
 // Returns which completions the other threads reaped from a moment on: a sentence for each of the
-// first few.
+// first few, and one for the rest.
 fn reaped_since(alloc: Global, run: &Run<'_>, since: u32) -> Result<String, AllocError> {
     let mut text = String::new(alloc);
     let reaps = &run.history.reaps;
@@ -219,6 +219,13 @@ fn reaped_since(alloc: Global, run: &Run<'_>, since: u32) -> Result<String, Allo
             )?;
             text.push_str(reaped.as_str())?;
         }
+    }
+    let more = reaps
+        .len()
+        .saturating_sub(first.saturating_add(NAMED_REAPS));
+    if more > 0 {
+        let reaped = format!(in alloc; " Other threads reaped {more} more.")?;
+        text.push_str(reaped.as_str())?;
     }
     Ok(text)
 }
@@ -265,18 +272,57 @@ pub(crate) fn waits(
     )
 }
 
+// Returns how many completions the backlog has.
+fn overflowed(run: &Run<'_>) -> u64 {
+    let front = run.number(Place::BacklogFront).min(u64::from(MOST_ROWS)) as u32;
+    let mut count: u64 = 0;
+    for index in front..MOST_ROWS {
+        if run.state.value(Place::Backlog(index)).is_none() {
+            return count;
+        }
+        count = count.saturating_add(1);
+    }
+    count
+}
+
+// Returns what the sentence of a thread that can't reap says of the backlog, if that has
+// completions.
+fn flushed_before_reap(alloc: Global, run: &Run<'_>) -> Result<String, AllocError> {
+    if !is_overflowing(run) {
+        return Ok(String::new(alloc));
+    }
+    let completions = Counted::completions(overflowed(run));
+    format!(in alloc;
+        " The backlog has {completions}: before the reap, enter with IORING_ENTER_GETEVENTS to flush the backlog into the ring {BACKLOG_RULE}."
+    )
+}
+
+// Returns what the sentence of a thread that can't push says of the backlog, if that has
+// completions and threads submit the entries.
+fn flushed_before_submission(alloc: Global, run: &Run<'_>) -> Result<String, AllocError> {
+    if !is_overflowing(run) || run.setup.sqpoll {
+        return Ok(String::new(alloc));
+    }
+    let completions = Counted::completions(overflowed(run));
+    format!(in alloc;
+        " The backlog has {completions}: an enter that submits first flushes the backlog into the ring, and returns -16 (EBUSY) unless all of it fits {BACKLOG_RULE}."
+    )
+}
+
 /// Returns the sentence of a thread whose next step is refused to the end, because of a ring that
 /// nothing will fill or empty.
 pub(crate) fn stuck(alloc: Global, run: &Run<'_>, thread: u32) -> Result<String, AllocError> {
     let counter = run.number(Place::ProgramCounter(thread));
     let next = instruction_at(run.setup, Event::Step(thread), Some(counter));
     if let Some(Instruction::Push(_)) = next {
+        let backlog = flushed_before_submission(alloc, run)?;
         return format!(in alloc;
-            "Thread {thread} can never go on: its push, instruction {counter}, finds the submission ring full, and nothing is left that would take its entries (io_uring(7))."
+            "Thread {thread} can never go on: its push, instruction {counter}, finds the submission ring full, and nothing is left that would take its entries (io_uring(7)).{backlog}"
         );
     }
+    let backlog = flushed_before_reap(alloc, run)?;
     format!(in alloc;
-        "Thread {thread} can never go on: its reap, instruction {counter}, finds the completion ring empty, and no request is left that could complete (io_uring(7))."
+        "Thread {thread} can never go on: its reap, instruction {counter}, finds the completion ring empty, and no request is left that could complete (io_uring(7)).{backlog}"
     )
 }
 

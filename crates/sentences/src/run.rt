@@ -112,14 +112,14 @@ impl Run<'_> {
         None
     }
 
-    /// Returns what the history says about an FSYNC that completed at a moment, if an earlier one
-    /// of its file had failed.
-    pub(crate) fn retried_at(&self, moment: u32) -> Option<Retry> {
+    /// Returns what the history says about an FSYNC that completed at a moment, if earlier ones of
+    /// its file had failed.
+    pub(crate) fn retried_at(&self, moment: u32) -> Option<&Retry> {
         let list = &self.history.retries;
-        let index = list.partition_point(|retried| retried.moment < moment);
-        let retried = list.get(index).copied()?;
-        if retried.moment == moment {
-            Some(retried)
+        let index = list.partition_point(|retry| retry.moment < moment);
+        let retry = list.get(index)?;
+        if retry.moment == moment {
+            Some(retry)
         } else {
             None
         }
