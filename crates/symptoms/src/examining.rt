@@ -2,6 +2,7 @@
 ghost use Rattle.std.specs.Prelude.{◌≡◌, ◌≤◌, length, find, option_map, IfOk, OnOk, IfErr};
 ghost use Rattle.machine.specs.Runs.{start, Accepts};
 ghost use Rattle.runs.specs.Moments.{IsAt};
+ghost use Rattle.findings.specs.Findings.{IsReportOf};
 ghost use Rattle.findings.specs.Searching.{Halted};
 ghost use Rattle.symptoms.specs.declared.symptom.Symptom.TheVariants.{Finding as OfFinding, Reaches};
 ghost use Rattle.symptoms.specs.Symptoms.{is_wanted, seen_by, seen_at, IsFirst, IsSearched};
@@ -9,10 +10,10 @@ ghost use Rattle.symptoms.specs.Symptoms.{is_wanted, seen_by, seen_at, IsFirst, 
 use crate::reaching::first_taken;
 use crate::symptom::{Sighting, Symptom, Wanted};
 use finding_kinds::Finding;
-use findings::search_run;
+use findings::Search;
 use machine::{Event, Setup, State};
 use places::{Place, Value};
-use runs::Ended;
+use runs::{Ended, drive};
 use std::alloc::{AllocError, Global};
 
 /// What a run shows.
@@ -59,6 +60,30 @@ fn first_wanted(findings: &[Finding], wanted: &Wanted<'_>) -> Option<Finding>
         .copied()
 }
 
+// Steps the events, and returns their findings. The history that only sentences need isn't kept.
+fn findings_of(
+    alloc: Global,
+    state: &mut State,
+    setup: &Setup,
+    events: &[Event],
+) -> Result<Vec<Finding>, Ended<AllocError>>
+    requires starts { state.old ≡ start setup.now }
+    requires most { length events.now ≤ 1048576 }
+    ensures runs { OnOk result (Accepts (start setup.now) events.now) }
+    ensures at { OnOk result (IsAt setup.now events.now (length events.now) state.new) }
+    ensures ok { IfOk result (λ found. IsReportOf setup.now events.now found.items) }
+    ensures err { IfErr result (Halted setup.now events.now) }
+{
+    let Ok(mut search) = Search::without_history(alloc, setup, state) else {
+        return Err(Ended::Memory);
+    };
+    drive(state, setup, events, &mut search)?;
+    match search.finish(setup, events, state) {
+        Ok(found) => Ok(found.findings),
+        Err(_) => Err(Ended::Memory),
+    }
+}
+
 // Looks for the first wanted finding.
 #[tactic(auto, using(crate::proofs::Sighted::sighted_finding))]
 fn examine_findings(
@@ -78,10 +103,10 @@ fn examine_findings(
         (λ x. IsSearched setup.now events.now (OfFinding wanted.now) x.findings.items) }
     ensures err { IfErr result (Halted setup.now events.now) }
 {
-    let found = search_run(alloc, state, setup, events)?;
+    let findings = findings_of(alloc, state, setup, events)?;
     Ok(Examined {
-        sighting: sighting_by(first_wanted(&found.findings, wanted)),
-        findings: found.findings,
+        sighting: sighting_by(first_wanted(&findings, wanted)),
+        findings,
     })
 }
 

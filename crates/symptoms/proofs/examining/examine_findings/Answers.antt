@@ -8,4 +8,4 @@ use Rattle.symptoms.proofs.examining.examine_findings.Goals as goal
 pub returns-clause-sighting : goal.returns-clause-sighting
 returns-clause-sighting c =
     let first = ap (option_map seen_by) (c.first_wanted.ensures ∙ ap (find (λ f. is_wanted c.args.wanted.now f.kind)) c.deref.ensures.value) in
-    subst (IsFirst c.args.setup.now c.args.events.now (OfFinding c.args.wanted.now)) (sym (c.sighting_by.ensures ∙ first)) (sighted_finding _ _ _ _ c.in_ok-found.ensures.ok)
+    subst (IsFirst c.args.setup.now c.args.events.now (OfFinding c.args.wanted.now)) (sym (c.sighting_by.ensures ∙ first)) (sighted_finding _ _ _ _ c.in_ok-findings.ensures.ok)
