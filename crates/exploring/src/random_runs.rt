@@ -161,7 +161,8 @@ fn has_kind(findings: &[Finding], kind: Kind) -> bool
         .any(|finding| kind.has_name_of(finding.kind))
 }
 
-#[tactic(auto, using(std::proofs::lemmas::Nat::Bits::bit_at_set_same, std::proofs::lemmas::Nat::Bits::bit_at_set_other))]
+
+// Returns the bits with bit `k` set if it is on.
 fn with_bit(bits: u64, k: usize, on: bool) -> u64
     requires { k < 64 }
     ensures bit { bit_at bits k ≡ 0 → bit_at result k ≡ (if on then 1 else 0) }
