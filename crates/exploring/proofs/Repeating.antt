@@ -9,7 +9,6 @@ use Rattle.scenario.specs.declared.setup.Setup.{Setup}
 use Rattle.machine.specs.declared.whole.Machine.{Machine}
 use Rattle.machine.specs.Runs.{start, run, moment, Linked}
 use Rattle.machine.proofs.LinkedRuns.{linked_runs}
-use Rattle.runs.specs.Moments.{IsAt}
 use Rattle.finding_kinds.specs.declared.finding.Finding.{Finding}
 use Rattle.sampling.proofs.Repeating.{repeatable}
 use Rattle.symptoms.specs.declared.symptom.Sighting.{Sighting}
