@@ -6,5 +6,5 @@ mod task;
 mod version;
 mod words;
 
-pub use task::{Form, Job};
+pub use task::{Exploration, Form, Job};
 pub use words::job;
