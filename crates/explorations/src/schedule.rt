@@ -9,7 +9,7 @@ use std::alloc::{AllocError, Global};
 #[derive(Clone, Copy, Serialize)]
 #[serde(untagged)]
 pub(crate) enum EventItem {
-    Word([&'static str; 1]),
+    Word((&'static str,)),
     Number(&'static str, u64),
     Choice(&'static str, u32, &'static str),
     Short(&'static str, u32, &'static str, u32),
@@ -20,7 +20,7 @@ fn item_of(event: Event) -> EventItem {
     match event {
         Event::Step(thread) => EventItem::Number("step", u64::from(thread)),
         Event::Take(entries) => EventItem::Number("take", u64::from(entries)),
-        Event::Sleep => EventItem::Word(["sleep"]),
+        Event::Sleep => EventItem::Word(("sleep",)),
         Event::Issue(row) => EventItem::Number("issue", u64::from(row)),
         Event::Finish(row, Choice::Full) => EventItem::Number("finish", u64::from(row)),
         Event::Finish(row, Choice::Short(bytes)) => {
