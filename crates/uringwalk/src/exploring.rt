@@ -1,0 +1,216 @@
+//! The `explore` subcommand: searches random runs of a script.
+
+use crate::explaining::kinds_of;
+use crate::output::{Output, write_text};
+use crate::progress::Progress;
+use crate::{SCRIPT_AND_ONE, fail, file_fault};
+use debug_server::{Exploration, Fault, KINDS, RunFault};
+use exploring::{Lane, Totals, explore_round};
+use machine::Setup;
+use random_search::{
+    Conclusion, Goal, RandomRuns, Reporting, SearchFault, Worker, conclude, symptom_of,
+};
+use rewriting::RewriteFault;
+use sampling::{Program, SampleOptions};
+use script::{ScriptFault, read_script};
+use std::alloc::{AllocError, Global};
+use std::process::ExitCode;
+use std::rt::Files;
+use std::thread;
+use std::thread::Threads;
+use std::time::Clock;
+use symptoms::Symptom;
+use whole_files::{read_file, write_file};
+
+/// The exit status if the command line is wrong.
+const WORDS: u8 = 2;
+
+/// The exit status if something was found.
+const FOUND: u8 = 3;
+
+/// The most threads of a search.
+const MOST_THREADS: usize = 64;
+
+/// How many runs a thread makes in a round.
+const PART: u64 = 64;
+
+/// The message if the script would be too long.
+const NO_ROOM: &str = "SCRIPT would have more than 8388608 bytes with the schedule that was found";
+
+const MEMORY: Fault = Fault::Run(RunFault::Memory);
+
+/// What a search is asked for.
+#[derive(Clone, Copy)]
+struct Task<'a> {
+    words: &'a Exploration<'a>,
+    /// The text of the script.
+    script: &'a [u8],
+    /// Whether standard error is a terminal, which shows progress.
+    is_terminal: bool,
+}
+
+// Reports that there is no such place, or that it can't have the value.
+fn refuse_until(rt: &impl Eprint, until: &str) -> ExitCode {
+    match eprintln!(rt;
+        "error: invalid value '{until}' for '--until <P = V>': no such place, or no such value of it"
+    ) {
+        Ok(()) | Err(_) => ExitCode::from(WORDS),
+    }
+}
+
+// Returns how many threads make the runs.
+fn thread_count(rt: &impl Threads, threads: Option<u32>) -> usize {
+    match threads {
+        Some(count) => count as usize,
+        None => match thread::available_parallelism(rt) {
+            Ok(count) => count.get().min(MOST_THREADS),
+            Err(_) => 1,
+        },
+    }
+}
+
+// Returns a worker for each thread.
+fn lanes_of(alloc: Global, setup: &Setup, count: usize) -> Result<Vec<Lane<Worker>>, AllocError> {
+    let mut lanes = Vec::new(alloc);
+    for _ in 0..count {
+        lanes.push(Lane::new(Worker::new(alloc, setup)?))?;
+    }
+    Ok(lanes)
+}
+
+// Makes runs in order of their numbers, in rounds, until one shows the symptom.
+fn search<R: Eprint + Threads + Clock + Sync>(
+    rt: &R,
+    task: Task<'_>,
+    runs: &RandomRuns<'_>,
+    lanes: &mut [Lane<Worker>],
+) -> Result<(Option<u32>, Totals), AllocError> {
+    let mut totals = Totals::new();
+    let mut progress = Progress::new(rt, task.is_terminal);
+    let size = PART * lanes.len() as u64;
+    let from = u64::from(task.words.first);
+    let until = from + u64::from(task.words.runs);
+    for round in 0..(until - from).div_ceil(size) {
+        let start = (from + round * size).min(until);
+        let report = explore_round(rt, runs, lanes, start, (start + size).min(until))?;
+        totals.add(&report.totals);
+        if report.found.is_some() {
+            return Ok((report.found, totals));
+        }
+        progress.show(rt, totals.runs);
+    }
+    Ok((None, totals))
+}
+
+// Searches, and returns what to print and to write.
+fn conclusion_of<R: Eprint + Threads + Clock + Sync>(
+    rt: &R,
+    task: Task<'_>,
+    runs: &RandomRuns<'_>,
+) -> Result<Conclusion, SearchFault> {
+    let count = thread_count(rt, task.words.threads);
+    let mut lanes = lanes_of(runs.alloc, runs.setup, count)?;
+    let (found, totals) = search(rt, task, runs, &mut lanes)?;
+    let reporting = Reporting {
+        script: task.script,
+        until: task.words.until,
+        out: task.words.out,
+        json: task.words.json,
+    };
+    conclude(runs, reporting, found, &totals)
+}
+
+// Writes the script with the schedule that was found to its file, and prints the report.
+fn present<R: Files + Print + AllocGlobal>(
+    rt: &R,
+    out: Option<&str>,
+    conclusion: Conclusion,
+) -> Result<ExitCode, Fault> {
+    let Conclusion {
+        printed,
+        script,
+        is_found,
+    } = conclusion;
+    if let (Some(out), Some(bytes)) = (out, &script) {
+        write_file(rt, out, bytes).map_err(file_fault)?;
+    }
+    write_text(&mut Output::new(rt), Ok(printed))?;
+    Ok(if is_found {
+        ExitCode::from(FOUND)
+    } else {
+        ExitCode::SUCCESS
+    })
+}
+
+// Returns what to search for, in which runs.
+fn goal_of<'a>(words: &Exploration<'_>, symptom: Symptom<'a>) -> Goal<'a> {
+    Goal {
+        symptom,
+        options: SampleOptions {
+            unlocked: words.unlocked,
+            sound_device: words.sound_device,
+            most: words.events,
+        },
+        seed: words.seed,
+        kinds: KINDS,
+    }
+}
+
+// Searches for a symptom.
+fn explore_for<R: Files + Print + Eprint + AllocGlobal + Threads + Clock + Sync>(
+    rt: &R,
+    task: Task<'_>,
+    setup: &Setup,
+    symptom: Symptom<'_>,
+) -> Result<ExitCode, Fault> {
+    let Ok(program) = Program::new(rt.alloc(), setup) else {
+        return Err(MEMORY);
+    };
+    let runs = RandomRuns {
+        alloc: rt.alloc(),
+        setup,
+        program: &program,
+        goal: goal_of(task.words, symptom),
+    };
+    match conclusion_of(rt, task, &runs) {
+        Ok(conclusion) => present(rt, task.words.out, conclusion),
+        Err(SearchFault::Memory | SearchFault::Rewrite(RewriteFault::Memory)) => Err(MEMORY),
+        Err(SearchFault::Rewrite(_)) => Ok(fail(rt, 1, &NO_ROOM)),
+    }
+}
+
+// Searches the runs of a setup.
+fn explore_setup<R: Files + Print + Eprint + AllocGlobal + Threads + Clock + Sync>(
+    rt: &R,
+    task: Task<'_>,
+    setup: &Setup,
+) -> Result<ExitCode, Fault> {
+    let Ok(kinds) = kinds_of(rt.alloc(), &task.words.kinds) else {
+        return Err(MEMORY);
+    };
+    match symptom_of(rt.alloc(), setup, &kinds, task.words.until) {
+        Ok(Some(symptom)) => explore_for(rt, task, setup, symptom),
+        Ok(None) => Ok(refuse_until(rt, task.words.until.unwrap_or(""))),
+        Err(_) => Err(MEMORY),
+    }
+}
+
+/// Searches random runs of a script, prints what is found, and writes the script with its schedule.
+/// Progress is printed only on a terminal. Returns the exit status.
+pub fn explore_file<R: Files + Print + Eprint + AllocGlobal + Threads + Clock + Sync>(
+    rt: &R,
+    words: &Exploration<'_>,
+    is_terminal: bool,
+) -> Result<ExitCode, Fault> {
+    let text = read_file(rt, words.script, SCRIPT_AND_ONE).map_err(file_fault)?;
+    let task = Task {
+        words,
+        script: &text,
+        is_terminal,
+    };
+    match read_script(rt.alloc(), &text) {
+        Ok(script) => explore_setup(rt, task, script.setup()),
+        Err(ScriptFault::Memory) => Err(MEMORY),
+        Err(fault) => Err(Fault::Run(RunFault::Script(fault))),
+    }
+}
