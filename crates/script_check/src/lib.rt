@@ -15,7 +15,6 @@ mod refusals;
 mod refused;
 mod report;
 mod verdict;
-mod walk;
 
 pub use checking::check_script;
 pub use file_lines::{long_line, unread_line};

@@ -1,7 +1,7 @@
 //! Explains why a text isn't JSON, for mistakes that are common in scripts written by hand.
 
 use crate::locating::{Position, offset_at, position_of};
-use crate::walk::string_length;
+use json_offsets::string_length;
 use serde_json::Error;
 use std::alloc::{AllocError, Global};
 

@@ -2,8 +2,9 @@
 
 use crate::fault_sentences::{is_unknown, sentence, unknown_key};
 use crate::further::{MOST_FAULTS, faults_of};
-use crate::locating::{Member, key_word, members_of, offset_of, position_of};
+use crate::locating::{key_word, offset_of, position_of};
 use crate::not_json::no_json;
+use json_offsets::{Member, members_of};
 use script::items::{item_path, key_path};
 use script::{Key, Path, ScriptFault};
 use serde_json::Value;

@@ -84,7 +84,7 @@ impl Walk {
 
 /// Returns the length of the string at the start of some bytes, with both quotes. Returns the
 /// number of bytes if the string has no end.
-pub(crate) fn string_length(bytes: &[u8]) -> usize
+pub fn string_length(bytes: &[u8]) -> usize
     ensures { result ≤ length bytes.now }
 {
     let mut walk = Walk::new();
