@@ -1,0 +1,75 @@
+-- A key, a seed and a number determine a sample.
+use Rattle.std.proofs.Common.{◌≡◌, ℕ, ◌+◌, ◌-◌, ◌*◌, ◌/◌, ◌^◌, ◌<◌, List, [], ◌∷◌, length, refl, sym, ap, ◌∙◌, subst, arith, inl, inr, false}
+use Rattle.std.specs.Prelude.{Some, None, nat_lt, ◌==◌}
+use Rattle.std.proofs.lemmas.Bool.{cases_lt}
+use Rattle.std.proofs.lemmas.Bool.Decides.{nat_tests}
+use Rattle.scenario.specs.declared.event.Event.{Event}
+use Rattle.scenario.specs.declared.setup.Setup.{Setup}
+use Rattle.machine.specs.declared.whole.Machine.{Machine}
+use Rattle.machine.specs.Steps.{after}
+use Rattle.machine.specs.Runs.{start}
+use Rattle.sampling.specs.declared.draws.Source.{Source}
+use Rattle.sampling.specs.declared.draws.SampleOptions.{SampleOptions}
+use Rattle.sampling.specs.Draws.{mixed, source_of}
+use Rattle.sampling.specs.Offers.{offer_of, rank_at, rank_of, position_of}
+use Rattle.sampling.specs.Choosing.{IsChosen}
+use Rattle.sampling.specs.Samples.{IsRun, IsSample}
+
+-- ---- ranks differ
+
+-- An actor that offers an event has a number below 65,554.
+pub offered_below : (s : Source) (m : Machine) (actor : ℕ) (e : Event) → offer_of s m actor ≡ Some e → actor < 65554
+offered_below s m actor e h = elim (cases_lt actor 65554) [
+  | inl low ↦ low
+  | inr high ↦
+      let a : nat_lt actor 16 ≡ false = grind (arith, nat_tests) in
+      let b : (actor == 16) ≡ false = grind (arith, nat_tests) in
+      let c : nat_lt actor 65553 ≡ false = grind (arith, nat_tests) in
+      let d : (actor == 65553) ≡ false = grind (arith, nat_tests) in
+      let no : None ≡ Some e = rw (a, b, c, d) at h in absurd (cc)
+]
+
+same_rank : (key a b p q : ℕ) → a < 65554 → b < 65554 → rank_at key a p ≡ rank_at key b q → a ≡ b
+unfolding rank_at
+same_rank key a b p q l k h = parts (mixed key a p / 2 ^ 17) (mixed key b q / 2 ^ 17) a b l k h
+  where
+    parts : (x y a b : ℕ) → a < 65554 → b < 65554 → x * 2 ^ 17 + a ≡ y * 2 ^ 17 + b → a ≡ b
+    parts x y a b l k h = omega arith
+
+same_actor : (s : Source) (m : Machine) (e f : Event) (a : IsChosen s m e) (b : IsChosen s m f) → a.actor ≡ b.actor
+same_actor s m e f a b =
+    let x = a.greatest b.actor f b.ready in
+    let y = b.greatest a.actor e a.ready in
+    let same : rank_of s m a.actor ≡ rank_of s m b.actor = omega (arith, x, y) in
+    same_rank s.key a.actor b.actor (position_of m a.actor) (position_of m b.actor) (offered_below s m a.actor e a.ready.offered) (offered_below s m b.actor f b.ready.offered) same
+
+chosen_once : (s : Source) (m : Machine) (e f : Event) → IsChosen s m e → IsChosen s m f → e ≡ f
+chosen_once s m e f a b =
+    let k = same_actor s m e f a b in
+    let p : offer_of s m b.actor ≡ Some e = subst (λ (n : ℕ). offer_of s m n ≡ Some e) k a.ready.offered in
+    let q : offer_of s m b.actor ≡ Some f = b.ready.offered in
+    let r : Some e ≡ Some f = sym p ∙ q in cc
+
+-- ---- runs
+
+rest : (s : Source) (most : ℕ) (m : Machine) (e : Event) (es : List Event) → IsRun s most m (e ∷ es) → IsRun s (most - 1) (after m e) es
+rest s most m e es h =
+    let fits = h.within in
+    record {
+      chosen = h.chosen.1;
+      within = omega (arith, fits);
+      ends = λ (less : length es < most - 1). h.ends (omega (arith, less));
+    }
+
+runs_agree : (s : Source) (most : ℕ) (m : Machine) (a b : List Event) → IsRun s most m a → IsRun s most m b → a ≡ b
+runs_agree s most m [] [] h k = refl
+runs_agree s most m [] (f ∷ fs) h k = let fits = k.within in absurd ((h.ends (omega (arith, fits))).none k.chosen.0.actor f k.chosen.0.ready)
+runs_agree s most m (e ∷ es) [] h k = let fits = h.within in absurd ((k.ends (omega (arith, fits))).none h.chosen.0.actor e h.chosen.0.ready)
+runs_agree s most m (e ∷ es) (f ∷ fs) h k =
+    let first = chosen_once s m e f h.chosen.0 k.chosen.0 in
+    let other : IsRun s (most - 1) (after m e) fs = subst (λ (x : Event). IsRun s (most - 1) (after m x) fs) (sym first) (rest s most m f fs k) in
+    let later = runs_agree s (most - 1) (after m e) es fs (rest s most m e es h) other in
+    ap (λ x. x ∷ es) first ∙ ap (λ xs. f ∷ xs) later
+
+pub repeatable : (setup : Setup) (options : SampleOptions) (seed number : ℕ) (a b : List Event) → IsSample setup options seed number a → IsSample setup options seed number b → a ≡ b
+repeatable setup options seed number a b h k = runs_agree (source_of options seed number) options.most (start setup) a b h k

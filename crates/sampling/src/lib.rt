@@ -1,0 +1,17 @@
+//! Random runs of a program, each repeatable from a seed and a run number.
+#![tactic(auto)]
+
+mod choosing;
+mod draws;
+pub mod laws;
+mod locks;
+mod offers;
+mod program;
+mod rows;
+mod running;
+mod samples;
+
+pub use draws::SampleOptions;
+pub use program::Program;
+pub use running::{sample, undo};
+pub use samples::Sample;

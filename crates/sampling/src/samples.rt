@@ -1,0 +1,26 @@
+//! Random runs.
+
+use machine::Event;
+use places::Record;
+use std::alloc::Global;
+
+/// A random run. Its memory is used again by the next one.
+#[derive(Drop)]
+pub struct Sample {
+    pub events: Vec<Event>,
+    /// The undo records of the events.
+    pub records: Vec<Record>,
+    /// Whether the state after the events is over.
+    pub is_over: bool,
+}
+
+impl Sample {
+    /// Returns an empty run. Doesn't allocate.
+    pub fn new(alloc: Global) -> Sample {
+        Sample {
+            events: Vec::new(alloc),
+            records: Vec::new(alloc),
+            is_over: false,
+        }
+    }
+}
