@@ -1,0 +1,38 @@
+-- The first sighting of a symptom, from the findings of a run or from the values of a place.
+use Rattle.std.proofs.Common.{◌≡◌, ℕ, ◌≤◌, true, List, length, refl, arith}
+use Rattle.std.specs.Prelude.{Option, Some, None, find, option_map}
+use Rattle.std.proofs.lemmas.List.Elements.{All-contains}
+use Rattle.places.specs.declared.place.Place.{Place}
+use Rattle.places.specs.declared.value.Value.{Value}
+use Rattle.scenario.specs.declared.event.Event.{Event}
+use Rattle.scenario.specs.declared.setup.Setup.{Setup}
+use Rattle.finding_kinds.specs.declared.finding.Finding.{Finding}
+use Rattle.findings.specs.Findings.{IsFinding, IsReportOf}
+use Rattle.symptoms.specs.declared.symptom.Wanted.{Wanted}
+use Rattle.symptoms.specs.declared.symptom.Symptom.TheVariants as sought
+use Rattle.symptoms.specs.Symptoms.{is_wanted, IsWantedAt, IsFirst, seen_by, seen_at}
+use Rattle.symptoms.specs.Reaching.{IsFirstUpTo}
+use Rattle.symptoms.proofs.First.{found_among, none_among, least_found}
+use Rattle.symptoms.proofs.Taking.{within_run}
+
+first_of : (s : Setup) (es : List Event) (wanted : Wanted) (fs : List Finding) → IsReportOf s es fs → (o : Option Finding) → find (λ f. is_wanted wanted f.kind) fs ≡ o → IsFirst s es (sought.Finding wanted) (option_map seen_by o)
+first_of s es wanted fs r None e = λ m shown. All-contains (λ g. is_wanted wanted g.kind ≡ true → ⊥) fs shown.0 (none_among (λ g. is_wanted wanted g.kind) fs e) (r.whole shown.0 shown.1.finding) shown.1.kind
+first_of s es wanted fs r (Some f) e =
+    let found = found_among (λ g. is_wanted wanted g.kind) (IsFinding s es) fs f e r.only in
+    let here : IsWantedAt s es wanted f.moment f = record { finding = found.0; kind = found.1; moment = refl } in
+    record {
+      shown = (f, here);
+      seen = here;
+      least = λ m shown.
+          let least = All-contains (λ g. is_wanted wanted g.kind ≡ true → f.moment ≤ g.moment) fs shown.0 (least_found (λ g. is_wanted wanted g.kind) fs f e r.order) (r.whole shown.0 shown.1.finding) shown.1.kind in
+          omega (arith, least, shown.1.moment);
+    }
+
+-- The first wanted finding of a report is the first sighting.
+pub sighted_finding : (s : Setup) (es : List Event) (wanted : Wanted) (fs : List Finding) → IsReportOf s es fs → IsFirst s es (sought.Finding wanted) (option_map seen_by (find (λ f. is_wanted wanted f.kind) fs))
+sighted_finding s es wanted fs r = first_of s es wanted fs r (find (λ f. is_wanted wanted f.kind) fs) refl
+
+-- So is the first moment at which the place takes the value, over the whole run.
+pub sighted_place : (s : Setup) (es : List Event) (p : Place) (v : Value) (o : Option ℕ) → IsFirstUpTo s es (length es) p v o → IsFirst s es (sought.Reaches p v) (option_map seen_at o)
+sighted_place s es p v None h = within_run s es p v h
+sighted_place s es p v (Some k) h = record { shown = h.0; seen = h.0; least = h.1 }

@@ -1,0 +1,2 @@
+pub mod Symptoms
+pub mod Reaching

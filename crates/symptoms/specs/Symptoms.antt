@@ -1,0 +1,97 @@
+-- What a run is searched for, and the moments at which it shows that.
+use Rattle.std.specs.Prelude.{◌≡◌, ◌≢◌, ℕ, ◌-◌, ◌≤◌, Bool, true, false, not, ◌&&◌, Option, Some, None, List, []}
+use Rattle.std.specs.List.{list_any}
+use Rattle.places.specs.declared.place.Place.{Place}
+use Rattle.places.specs.declared.value.Value.{Value}
+use Rattle.places.specs.View.{View}
+use Rattle.scenario.specs.declared.event.Event.{Event}
+use Rattle.scenario.specs.declared.setup.Setup.{Setup}
+use Rattle.machine.specs.Whole.{view}
+use Rattle.machine.specs.Runs.{moment as machine_at}
+use Rattle.finding_kinds.specs.declared.finding.Finding.{Finding}
+use Rattle.finding_kinds.specs.declared.kind.Kind.{Kind}
+use Rattle.finding_kinds.specs.declared.kind.Kind.TheVariants.{Ended}
+use Rattle.finding_kinds.specs.declared.kind.EndedKind.TheVariants.{Failed, Short}
+use Rattle.finding_kinds.specs.contracts.kind.KindPartialEq.TheImpl as compared
+use Rattle.finding_kinds.specs.Kinds.{is_fault}
+use Rattle.finding_kinds.specs.Orders.{have_one_name}
+use Rattle.findings.specs.Findings.{IsFinding, IsReportOf}
+use Rattle.symptoms.specs.declared.symptom.Wanted.{Wanted}
+use Rattle.symptoms.specs.declared.symptom.Wanted.TheVariants.{Faults, Kinds, Exactly}
+use Rattle.symptoms.specs.declared.symptom.Symptom.{Symptom}
+use Rattle.symptoms.specs.declared.symptom.Symptom.TheVariants as sought
+use Rattle.symptoms.specs.declared.symptom.Sighting.{Sighting}
+
+-- ---- findings
+
+-- Whether a correct program can have findings of this kind, because devices fail: requests that
+-- fail or are short.
+abbrev pub is_of_device : Kind → Bool
+is_of_device (Ended Failed) = true
+is_of_device (Ended (Short verdict)) = true
+is_of_device kind = false
+
+-- Whether a kind has one of the names of some kinds.
+abbrev pub is_among : List Kind → Kind → Bool
+is_among names kind = list_any (λ name. have_one_name name kind) names
+
+-- Whether findings of a kind are wanted.
+abbrev pub is_wanted : Wanted → Kind → Bool
+is_wanted Faults kind = is_fault kind && not (is_of_device kind)
+is_wanted (Kinds names) kind = is_among names.now kind
+is_wanted (Exactly one) kind = (compared.ghosts).eq one kind
+
+-- A wanted finding of a run, at moment m.
+pub record IsWantedAt (s : Setup) (es : List Event) (wanted : Wanted) (m : ℕ) (f : Finding) : Type 0 where
+  pub finding : IsFinding s es f
+  pub kind : is_wanted wanted f.kind ≡ true
+  pub moment : f.moment ≡ m
+
+-- ---- places
+
+-- A place has the value in the new view, and had another in the old one, or none.
+pub record Took (old new : View) (p : Place) (v : Value) : Type 0 where
+  pub here : new p ≡ Some v
+  pub before : old p ≢ Some v
+
+-- At moment m of a run a place has the value, and it didn't one event earlier.
+abbrev pub TakesAt : Setup → List Event → Place → Value → ℕ → Type 0
+TakesAt s es p v m = Took (view (machine_at s es (m - 1))) (view (machine_at s es m)) p v
+
+-- ---- symptoms
+
+-- A run shows a symptom at moment m: by a wanted finding, or by the value of a place.
+abbrev pub Shows : Setup → List Event → Symptom → ℕ → Type 0
+Shows s es (sought.Finding wanted) m = (f : Finding) × IsWantedAt s es wanted m f
+Shows s es (sought.Reaches p v) m = TakesAt s es p v m
+
+-- What shows a symptom at moment m: this finding, or the value of a place.
+abbrev pub IsSeenAt : Setup → List Event → Symptom → ℕ → Option Finding → Type 0
+IsSeenAt s es (sought.Finding wanted) m (Some f) = IsWantedAt s es wanted m f
+IsSeenAt s es (sought.Finding wanted) m None = ⊥
+IsSeenAt s es (sought.Reaches p v) m (Some f) = ⊥
+IsSeenAt s es (sought.Reaches p v) m None = TakesAt s es p v m
+
+-- A run shows a symptom first as the sighting says.
+pub record IsSighting (s : Setup) (es : List Event) (wanted : Symptom) (x : Sighting) : Type 0 where
+  pub shown : Shows s es wanted x.moment
+  pub seen : IsSeenAt s es wanted x.moment x.finding
+  pub least : (m : ℕ) → Shows s es wanted m → x.moment ≤ m
+
+-- The first sighting of a symptom in a run: None if the run doesn't show it.
+abbrev pub IsFirst : Setup → List Event → Symptom → Option Sighting → Type 0
+IsFirst s es wanted (Some x) = IsSighting s es wanted x
+IsFirst s es wanted None = (m : ℕ) → Shows s es wanted m → ⊥
+
+-- The findings that a search for a symptom makes: all of the run, unless a place is looked at.
+abbrev pub IsSearched : Setup → List Event → Symptom → List Finding → Type 0
+IsSearched s es (sought.Finding wanted) fs = IsReportOf s es fs
+IsSearched s es (sought.Reaches p v) fs = fs ≡ []
+
+-- The sighting of a finding.
+abbrev pub seen_by : Finding → Sighting
+seen_by f = record { moment = f.moment; finding = Some f }
+
+-- The sighting of a place's value at a moment.
+abbrev pub seen_at : ℕ → Sighting
+seen_at m = record { moment = m; finding = None }

@@ -1,0 +1,140 @@
+//! Examines a run for a symptom.
+ghost use Rattle.std.specs.Prelude.{◌≡◌, ◌≤◌, length, find, option_map, IfOk, OnOk, IfErr};
+ghost use Rattle.machine.specs.Runs.{start, Accepts};
+ghost use Rattle.runs.specs.Moments.{IsAt};
+ghost use Rattle.findings.specs.Searching.{Halted};
+ghost use Rattle.symptoms.specs.declared.symptom.Symptom.TheVariants.{Finding as OfFinding, Reaches};
+ghost use Rattle.symptoms.specs.Symptoms.{is_wanted, seen_by, seen_at, IsFirst, IsSearched};
+
+use crate::reaching::first_taken;
+use crate::symptom::{Sighting, Symptom, Wanted};
+use finding_kinds::Finding;
+use findings::search_run;
+use machine::{Event, Setup, State};
+use places::{Place, Value};
+use runs::Ended;
+use std::alloc::{AllocError, Global};
+
+/// What a run shows.
+#[derive(Drop)]
+pub struct Examined {
+    /// The first sighting of the symptom, if there is one.
+    pub sighting: Option<Sighting>,
+    /// All findings of the run, in order. Empty if the symptom is a value of a place.
+    pub findings: Vec<Finding>,
+}
+
+// Returns the sighting of the first wanted finding.
+fn sighting_by(finding: Option<Finding>) -> Option<Sighting>
+    ensures { result ≡ option_map seen_by finding }
+{
+    match finding {
+        Some(finding) => Some(Sighting {
+            moment: finding.moment,
+            finding: Some(finding),
+        }),
+        None => None,
+    }
+}
+
+// Returns the sighting of the first moment at which a place takes a value.
+fn sighting_at(moment: Option<u32>) -> Option<Sighting>
+    ensures { result ≡ option_map seen_at moment }
+{
+    match moment {
+        Some(moment) => Some(Sighting {
+            moment,
+            finding: None,
+        }),
+        None => None,
+    }
+}
+
+fn first_wanted(findings: &[Finding], wanted: &Wanted<'_>) -> Option<Finding>
+    ensures { result ≡ find (λ f. is_wanted wanted.now f.kind) findings.now }
+{
+    findings
+        .iter()
+        .find(|finding| wanted.includes(finding.kind))
+        .copied()
+}
+
+// Looks for the first wanted finding.
+#[tactic(auto, using(crate::proofs::Sighted::sighted_finding))]
+fn examine_findings(
+    alloc: Global,
+    state: &mut State,
+    setup: &Setup,
+    events: &[Event],
+    wanted: &Wanted<'_>,
+) -> Result<Examined, Ended<AllocError>>
+    requires starts { state.old ≡ start setup.now }
+    requires most { length events.now ≤ 1048576 }
+    ensures runs { OnOk result (Accepts (start setup.now) events.now) }
+    ensures at { OnOk result (IsAt setup.now events.now (length events.now) state.new) }
+    ensures sighting { IfOk result
+        (λ x. IsFirst setup.now events.now (OfFinding wanted.now) x.sighting) }
+    ensures findings { IfOk result
+        (λ x. IsSearched setup.now events.now (OfFinding wanted.now) x.findings.items) }
+    ensures err { IfErr result (Halted setup.now events.now) }
+{
+    let found = search_run(alloc, state, setup, events)?;
+    Ok(Examined {
+        sighting: sighting_by(first_wanted(&found.findings, wanted)),
+        findings: found.findings,
+    })
+}
+
+// Looks for the first moment at which the place takes the value.
+#[tactic(auto, using(crate::proofs::Sighted::sighted_place))]
+fn examine_place(
+    alloc: Global,
+    state: &mut State,
+    setup: &Setup,
+    events: &[Event],
+    place: Place,
+    value: &Value,
+) -> Result<Examined, Ended<AllocError>>
+    requires starts { state.old ≡ start setup.now }
+    requires most { length events.now ≤ 1048576 }
+    ensures runs { OnOk result (Accepts (start setup.now) events.now) }
+    ensures at { OnOk result (IsAt setup.now events.now (length events.now) state.new) }
+    ensures sighting { IfOk result
+        (λ x. IsFirst setup.now events.now (Reaches place value.now) x.sighting) }
+    ensures findings { IfOk result
+        (λ x. IsSearched setup.now events.now (Reaches place value.now) x.findings.items) }
+    ensures err { IfErr result (Halted setup.now events.now) }
+{
+    let reached = first_taken(state, setup, events, place, value)?;
+    Ok(Examined {
+        sighting: sighting_at(reached),
+        findings: Vec::new(alloc),
+    })
+}
+
+/// Steps the events of a run from its start to its end, and returns the first sighting of the
+/// symptom. Fails if an event is refused or an allocation fails.
+pub fn examine(
+    alloc: Global,
+    state: &mut State,
+    setup: &Setup,
+    events: &[Event],
+    symptom: &Symptom<'_>,
+) -> Result<Examined, Ended<AllocError>>
+    requires starts { state.old ≡ start setup.now }
+    requires most { length events.now ≤ 1048576 }
+    ensures runs { OnOk result (Accepts (start setup.now) events.now) }
+    ensures at { OnOk result (IsAt setup.now events.now (length events.now) state.new) }
+    ensures sighting { IfOk result
+        (λ x. IsFirst setup.now events.now symptom.now x.sighting) }
+    ensures findings { IfOk result
+        (λ x. IsSearched setup.now events.now symptom.now x.findings.items) }
+    ensures err { IfErr result (Halted setup.now events.now) }
+{
+    match symptom {
+        Symptom::Finding(wanted) => examine_findings(alloc, state, setup, events, wanted),
+        Symptom::Reaches(place, value) => {
+            examine_place(alloc, state, setup, events, *place, value)
+        }
+    }
+}

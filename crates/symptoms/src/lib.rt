@@ -1,0 +1,9 @@
+//! Symptoms, for which a run is searched: wanted findings, or a place that takes a value.
+#![tactic(auto)]
+
+mod examining;
+mod reaching;
+mod symptom;
+
+pub use examining::{Examined, examine};
+pub use symptom::{Sighting, Symptom};
