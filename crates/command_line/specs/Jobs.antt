@@ -1,5 +1,6 @@
 -- The jobs that a command line describes.
 use Rattle.std.specs.Prelude.{◌≡◌, ◌≤◌, ◌+◌, ℕ, Option, Some, None, IsSomeAnd}
+use Rattle.command_line.specs.declared.task.Exploration.{Exploration}
 use Rattle.command_line.specs.declared.task.Job.{Job}
 use Rattle.command_line.specs.declared.task.Job.TheVariants.{Walk, Replay, Log, Check, Explain, Timeline, Explore, Schedule, Live, Serve, Trace, Migrate}
 
@@ -38,9 +39,13 @@ abbrev pub AreThreads : Option ℕ → Type 0
 AreThreads None = Unit {0}
 AreThreads (Some threads) = (1 ≤ threads) × (threads ≤ 64)
 
+-- Each number of a search is in its range.
+abbrev pub IsSearch : Exploration → Type 0
+IsSearch search = AreRuns search.runs search.first search.events × AreThreads search.threads
+
 -- Each number of a live run, a server or a search is in its range.
 abbrev pub IsInRange : Job → Type 0
 IsInRange (Live script turns kernel out) = AreInRange turns kernel
 IsInRange (Serve script port turns kernel clients) = AreInRange turns kernel × AreClients port clients
-IsInRange (Explore search) = AreRuns search.runs search.first search.events × AreThreads search.threads
+IsInRange (Explore search) = IsSearch search
 IsInRange job = Unit {0}

@@ -1,15 +1,18 @@
 //! The `explore` subcommand: searches random runs of a script.
+ghost use Rattle.std.specs.Prelude.{◌≡◌, ◌≤◌, None, All, IfOk, length};
+ghost use Rattle.scenario.specs.Setups.{setup_refusal};
+ghost use Rattle.machine.specs.Runs.{start};
+ghost use Rattle.debug_server.specs.Jobs.{IsSearch, AreThreads};
+ghost use Rattle.conclusions.specs.Conclusions.{AreRuns, IsScriptOf};
 
 use crate::explaining::kinds_of;
 use crate::output::{Output, write_text};
 use crate::progress::Progress;
 use crate::{SCRIPT_AND_ONE, fail, file_fault};
+use conclusions::{Conclusion, ConclusionFault, Reporting, conclude, symptom_of};
 use debug_server::{Exploration, Fault, KINDS, RunFault};
-use exploring::{Lane, Totals, explore_round};
+use exploring::{Lane, RandomRuns, Worker, explore};
 use machine::Setup;
-use random_search::{
-    Conclusion, Goal, RandomRuns, Reporting, SearchFault, Worker, conclude, symptom_of,
-};
 use rewriting::RewriteFault;
 use sampling::{Program, SampleOptions};
 use script::{ScriptFault, read_script};
@@ -30,9 +33,6 @@ const FOUND: u8 = 3;
 
 /// The most threads of a search.
 const MOST_THREADS: usize = 64;
-
-/// How many runs a thread makes in a round.
-const PART: u64 = 64;
 
 /// The message if the script would be too long.
 const NO_ROOM: &str = "SCRIPT would have more than 8388608 bytes with the schedule that was found";
@@ -59,7 +59,10 @@ fn refuse_until(rt: &impl Eprint, until: &str) -> ExitCode {
 }
 
 // Returns how many threads make the runs.
-fn thread_count(rt: &impl Threads, threads: Option<u32>) -> usize {
+fn thread_count(rt: &impl Threads, threads: Option<u32>) -> usize
+    requires { AreThreads threads }
+    ensures { (1 ≤ result) × (result ≤ 64) }
+{
     match threads {
         Some(count) => count as usize,
         None => match thread::available_parallelism(rt) {
@@ -70,7 +73,11 @@ fn thread_count(rt: &impl Threads, threads: Option<u32>) -> usize {
 }
 
 // Returns a worker for each thread.
-fn lanes_of(alloc: Global, setup: &Setup, count: usize) -> Result<Vec<Lane<Worker>>, AllocError> {
+fn lanes_of(alloc: Global, setup: &Setup, count: usize) -> Result<Vec<Lane<Worker>>, AllocError>
+    ensures count { IfOk result (λ lanes. length lanes.items ≡ count) }
+    ensures start { IfOk result (λ lanes. All (λ (lane : Lane Worker). lane.worker.state ≡ start setup.now)
+        lanes.items) }
+{
     let mut lanes = Vec::new(alloc);
     for _ in 0..count {
         lanes.push(Lane::new(Worker::new(alloc, setup)?))?;
@@ -78,46 +85,29 @@ fn lanes_of(alloc: Global, setup: &Setup, count: usize) -> Result<Vec<Lane<Worke
     Ok(lanes)
 }
 
-// Makes runs in order of their numbers, in rounds, until one shows the symptom.
-fn search<R: Eprint + Threads + Clock + Sync>(
-    rt: &R,
-    task: Task<'_>,
-    runs: &RandomRuns<'_>,
-    lanes: &mut [Lane<Worker>],
-) -> Result<(Option<u32>, Totals), AllocError> {
-    let mut totals = Totals::new();
-    let mut progress = Progress::new(rt, task.is_terminal);
-    let size = PART * lanes.len() as u64;
-    let from = u64::from(task.words.first);
-    let until = from + u64::from(task.words.runs);
-    for round in 0..(until - from).div_ceil(size) {
-        let start = (from + round * size).min(until);
-        let report = explore_round(rt, runs, lanes, start, (start + size).min(until))?;
-        totals.add(&report.totals);
-        if report.found.is_some() {
-            return Ok((report.found, totals));
-        }
-        progress.show(rt, totals.runs);
-    }
-    Ok((None, totals))
-}
-
 // Searches, and returns what to print and to write.
 fn conclusion_of<R: Eprint + Threads + Clock + Sync>(
     rt: &R,
     task: Task<'_>,
     runs: &RandomRuns<'_>,
-) -> Result<Conclusion, SearchFault> {
-    let count = thread_count(rt, task.words.threads);
-    let mut lanes = lanes_of(runs.alloc, runs.setup, count)?;
-    let (found, totals) = search(rt, task, runs, &mut lanes)?;
+) -> Result<Conclusion, ConclusionFault>
+    requires words { IsSearch task.words.now }
+    requires runs { AreRuns runs.now }
+    requires script { IsScriptOf task.script.now runs.now.setup.now }
+{
+    let words = task.words;
+    let mut lanes = lanes_of(runs.alloc, runs.setup, thread_count(rt, words.threads))?;
+    let mut progress = Progress::new(rt, task.is_terminal);
+    let report = explore(rt, runs, &mut lanes, words.first, words.runs, |count| {
+        progress.show(rt, count)
+    })?;
     let reporting = Reporting {
         script: task.script,
-        until: task.words.until,
-        out: task.words.out,
-        json: task.words.json,
+        until: words.until,
+        out: words.out,
+        json: words.json,
     };
-    conclude(runs, reporting, found, &totals)
+    conclude(runs, reporting, report.found, &report.totals)
 }
 
 // Writes the script with the schedule that was found to its file, and prints the report.
@@ -142,40 +132,41 @@ fn present<R: Files + Print + AllocGlobal>(
     })
 }
 
-// Returns what to search for, in which runs.
-fn goal_of<'a>(words: &Exploration<'_>, symptom: Symptom<'a>) -> Goal<'a> {
-    Goal {
-        symptom,
-        options: SampleOptions {
-            unlocked: words.unlocked,
-            sound_device: words.sound_device,
-            most: words.events,
-        },
-        seed: words.seed,
-        kinds: KINDS,
-    }
-}
-
 // Searches for a symptom.
 fn explore_for<R: Files + Print + Eprint + AllocGlobal + Threads + Clock + Sync>(
     rt: &R,
     task: Task<'_>,
     setup: &Setup,
     symptom: Symptom<'_>,
-) -> Result<ExitCode, Fault> {
-    let Ok(program) = Program::new(rt.alloc(), setup) else {
+) -> Result<ExitCode, Fault>
+    requires words { IsSearch task.words.now }
+    requires starts { setup_refusal setup.now ≡ None }
+    requires script { IsScriptOf task.script.now setup.now }
+{
+    let words = task.words;
+    let (Ok(program), Ok(kinds)) = (Program::new(rt.alloc(), setup), kinds_of(rt.alloc(), KINDS))
+    else {
         return Err(MEMORY);
     };
     let runs = RandomRuns {
         alloc: rt.alloc(),
         setup,
         program: &program,
-        goal: goal_of(task.words, symptom),
+        options: SampleOptions {
+            unlocked: words.unlocked,
+            sound_device: words.sound_device,
+            most: words.events,
+        },
+        seed: words.seed,
+        symptom,
+        kinds: &kinds,
     };
     match conclusion_of(rt, task, &runs) {
-        Ok(conclusion) => present(rt, task.words.out, conclusion),
-        Err(SearchFault::Memory | SearchFault::Rewrite(RewriteFault::Memory)) => Err(MEMORY),
-        Err(SearchFault::Rewrite(_)) => Ok(fail(rt, 1, &NO_ROOM)),
+        Ok(conclusion) => present(rt, words.out, conclusion),
+        Err(ConclusionFault::Memory | ConclusionFault::Rewrite(RewriteFault::Memory)) => {
+            Err(MEMORY)
+        }
+        Err(ConclusionFault::Rewrite(_)) => Ok(fail(rt, 1, &NO_ROOM)),
     }
 }
 
@@ -184,7 +175,11 @@ fn explore_setup<R: Files + Print + Eprint + AllocGlobal + Threads + Clock + Syn
     rt: &R,
     task: Task<'_>,
     setup: &Setup,
-) -> Result<ExitCode, Fault> {
+) -> Result<ExitCode, Fault>
+    requires words { IsSearch task.words.now }
+    requires starts { setup_refusal setup.now ≡ None }
+    requires script { IsScriptOf task.script.now setup.now }
+{
     let Ok(kinds) = kinds_of(rt.alloc(), &task.words.kinds) else {
         return Err(MEMORY);
     };
@@ -201,7 +196,9 @@ pub fn explore_file<R: Files + Print + Eprint + AllocGlobal + Threads + Clock + 
     rt: &R,
     words: &Exploration<'_>,
     is_terminal: bool,
-) -> Result<ExitCode, Fault> {
+) -> Result<ExitCode, Fault>
+    requires { IsSearch words.now }
+{
     let text = read_file(rt, words.script, SCRIPT_AND_ONE).map_err(file_fault)?;
     let task = Task {
         words,

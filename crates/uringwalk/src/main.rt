@@ -32,9 +32,9 @@ use logging::log_file;
 use run_log::EventRange;
 use scheduling::schedule_file;
 use serving::serve_file;
+use std::io::IsTerminal;
 use std::net::{Net, TcpListener, TcpStream};
 use std::process::ExitCode;
-use std::io::IsTerminal;
 use std::rt::Files;
 use std::sync::Wait;
 use std::thread::Threads;
@@ -54,8 +54,7 @@ const TRACE_AND_ONE: u64 = 16777229;
 const WHOLE_TRACE_AND_ONE: u64 = 287966118;
 
 /// The message if OUT is another path of the script's file.
-const ONTO_SCRIPT: &str =
-    "error: OUT leads to SCRIPT's own file: the script would be overwritten";
+const ONTO_SCRIPT: &str = "error: OUT leads to SCRIPT's own file: the script would be overwritten";
 
 /// The kind of file that a session reads.
 #[derive(Clone, Copy)]
@@ -200,11 +199,13 @@ fn loses_script(rt: &(impl Files + AllocGlobal), job: &Job<'_>) -> Result<bool, 
         | Job::Schedule { script, out, .. } => {
             lead_to_one_file(rt, *script, *out).map_err(file_fault)
         }
-        Job::Explore(Exploration {
-            script,
-            out: Some(out),
-            ..
-        })
+        Job::Explore(
+            Exploration {
+                script,
+                out: Some(out),
+                ..
+            },
+        )
         | Job::Live {
             script,
             out: Some(out),

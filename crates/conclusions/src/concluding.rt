@@ -1,10 +1,14 @@
 //! The conclusion of a search.
+ghost use Rattle.std.specs.Prelude.{◌≡◌, ◌≤◌, length, IfOk, IfSome, is_some, None, false};
+ghost use Rattle.rewriting.specs.Rewriting.{IsRewritten};
+ghost use Rattle.conclusions.specs.Conclusions.{AreRuns, IsHit, IsScriptOf, IsShown, IsFoundScript};
 
-use crate::fault::SearchFault;
+use crate::fault::ConclusionFault;
 use crate::shown::{Shown, sentence_of, shown_by};
-use crate::trial::RandomRuns;
 use explorations::{Discovery, Exploration, SeenKind, json_of, text_of};
-use exploring::Totals;
+use exploring::{RandomRuns, Totals};
+use finding_kinds::Kind;
+use machine::Setup;
 use rewriting::{RewriteFault, with_schedule};
 use shrinking::Shrunk;
 use std::alloc::{AllocError, Global};
@@ -31,16 +35,12 @@ pub struct Reporting<'a> {
 }
 
 // Returns the kinds that runs showed, and how many runs showed each.
-fn seen_by(
-    alloc: Global,
-    kinds: &[&'static str],
-    totals: &Totals,
-) -> Result<Vec<SeenKind>, AllocError> {
+fn seen_by(alloc: Global, kinds: &[Kind], totals: &Totals) -> Result<Vec<SeenKind>, AllocError> {
     let mut seen = Vec::new(alloc);
     for (kind, runs) in kinds.iter().zip(totals.kinds.iter()) {
         if *runs > 0 {
             seen.push(SeenKind {
-                kind: *kind,
+                kind: kind.word(),
                 runs: *runs,
             })?;
         }
@@ -64,8 +64,11 @@ fn report_of(
     totals: &Totals,
     number: u32,
     shown: &Shown,
-) -> Result<String, AllocError> {
-    let seen = seen_by(runs.alloc, runs.goal.kinds, totals)?;
+) -> Result<String, AllocError>
+    requires runs { AreRuns runs.now }
+    requires most { length shown.now.shrunk.events.items ≤ 65536 }
+{
+    let seen = seen_by(runs.alloc, runs.kinds, totals)?;
     let text = sentence_of(runs.alloc, runs.setup, &shown.shrunk)?;
     let sighting = shown.shrunk.sighting;
     let kind = sighting.finding.map(|finding| finding.kind.word());
@@ -80,7 +83,7 @@ fn report_of(
         out: reporting.out,
     };
     let exploration = Exploration {
-        seed: runs.goal.seed,
+        seed: runs.seed,
         runs: totals.runs,
         events: totals.events,
         seen: &seen,
@@ -94,10 +97,12 @@ fn nothing(
     runs: &RandomRuns<'_>,
     reporting: Reporting<'_>,
     totals: &Totals,
-) -> Result<Conclusion, SearchFault> {
-    let seen = seen_by(runs.alloc, runs.goal.kinds, totals)?;
+) -> Result<Conclusion, ConclusionFault>
+    ensures { IfOk result (λ c. (c.is_found ≡ false) × (c.script ≡ None)) }
+{
+    let seen = seen_by(runs.alloc, runs.kinds, totals)?;
     let exploration = Exploration {
-        seed: runs.goal.seed,
+        seed: runs.seed,
         runs: totals.runs,
         events: totals.events,
         seen: &seen,
@@ -114,8 +119,14 @@ fn nothing(
 fn script_with(
     alloc: Global,
     reporting: Reporting<'_>,
+    setup: &Setup,
     shrunk: &Shrunk,
-) -> Result<Option<Vec<u8>>, RewriteFault> {
+) -> Result<Option<Vec<u8>>, RewriteFault>
+    requires text { IsScriptOf reporting.script.now setup.now }
+    requires most { length shrunk.now.events.items ≤ 65536 }
+    ensures { IfOk result (λ script. IfSome script (λ made.
+        IsRewritten reporting.entry.script.now setup.now shrunk.now.events.items made.items)) }
+{
     match reporting.out {
         Some(_) => Ok(Some(with_schedule(alloc, reporting.script, &shrunk.events)?)),
         None => Ok(None),
@@ -128,7 +139,14 @@ pub fn conclude(
     reporting: Reporting<'_>,
     found: Option<u32>,
     totals: &Totals,
-) -> Result<Conclusion, SearchFault> {
+) -> Result<Conclusion, ConclusionFault>
+    requires runs { AreRuns runs.now }
+    requires hit { IsHit runs.now found }
+    requires text { IsScriptOf reporting.script.now runs.now.setup.now }
+    ensures found { IfOk result (λ c. c.is_found ≡ is_some found) }
+    ensures script { IfOk result (λ c. IfSome c.script (λ made. IsFoundScript
+        reporting.entry.script.now runs.now.setup.now runs.now.symptom made.items)) }
+{
     let Some(number) = found else {
         return nothing(runs, reporting, totals);
     };
@@ -137,7 +155,7 @@ pub fn conclude(
     };
     Ok(Conclusion {
         printed: report_of(runs, reporting, totals, number, &shown)?,
-        script: script_with(runs.alloc, reporting, &shown.shrunk)?,
+        script: script_with(runs.alloc, reporting, runs.setup, &shown.shrunk)?,
         is_found: true,
     })
 }

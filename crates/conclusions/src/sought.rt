@@ -1,21 +1,10 @@
-//! What a search looks for, and in which runs.
+//! What a search looks for.
 
 use commands::{Command, parse_line};
 use finding_kinds::Kind;
-use sampling::SampleOptions;
 use scenario::Setup;
 use std::alloc::{AllocError, Global};
 use symptoms::{Symptom, Wanted};
-
-/// The runs of a search, and what it looks for.
-#[derive(Clone, Copy)]
-pub struct Goal<'a> {
-    pub symptom: Symptom<'a>,
-    pub options: SampleOptions,
-    pub seed: u64,
-    /// The names of all kinds, in the order of the report.
-    pub kinds: &'static [&'static str],
-}
 
 // Returns the symptom of a place and a value, as the command `break` has them. Returns None if
 // there is no such place, or if it can't have the value.

@@ -5,31 +5,31 @@ use std::alloc::AllocError;
 
 /// Why a search has no conclusion.
 #[derive(Clone, Copy)]
-pub enum SearchFault {
+pub enum ConclusionFault {
     /// An allocation failed.
     Memory,
     /// The script can't have the schedule that was found.
     Rewrite(RewriteFault),
 }
 
-impl From<AllocError> for SearchFault {
+impl From<AllocError> for ConclusionFault {
     ghost use Rattle.std.specs.Prelude.{◌≡◌};
-    ghost use Rattle.random_search.specs.declared.fault.SearchFault.TheVariants.{Memory};
+    ghost use Rattle.conclusions.specs.declared.fault.ConclusionFault.TheVariants.{Memory};
 
     ghost from_gives = { λ _ e. e ≡ Memory };
 
-    fn from(_e: AllocError) -> SearchFault {
-        SearchFault::Memory
+    fn from(_e: AllocError) -> ConclusionFault {
+        ConclusionFault::Memory
     }
 }
 
-impl From<RewriteFault> for SearchFault {
+impl From<RewriteFault> for ConclusionFault {
     ghost use Rattle.std.specs.Prelude.{◌≡◌};
-    ghost use Rattle.random_search.specs.declared.fault.SearchFault.TheVariants.{Rewrite};
+    ghost use Rattle.conclusions.specs.declared.fault.ConclusionFault.TheVariants.{Rewrite};
 
     ghost from_gives = { λ fault e. e ≡ Rewrite fault };
 
-    fn from(fault: RewriteFault) -> SearchFault {
-        SearchFault::Rewrite(fault)
+    fn from(fault: RewriteFault) -> ConclusionFault {
+        ConclusionFault::Rewrite(fault)
     }
 }
