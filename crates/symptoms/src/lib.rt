@@ -6,4 +6,4 @@ mod reaching;
 mod symptom;
 
 pub use examining::{Examined, examine};
-pub use symptom::{Sighting, Symptom};
+pub use symptom::{Sighting, Symptom, Wanted};
