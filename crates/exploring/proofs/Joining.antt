@@ -92,19 +92,19 @@ reports-join g a b c None t u v q s p = record {
   totals = counts-join t u v q.outcomes p.outcomes q.totals p.totals s;
 }
 reports-join g a b c (Some n) t u v q s p = (
-    p.0,
-    record {
-      before = q.outcomes ++ p.1.before;
-      last = p.1.last;
-      until = omega (arith, q.until, p.1.until, length-append q.outcomes p.1.before);
-      trials = trials-append g a b q.outcomes p.1.before q.until q.trials p.1.trials;
-      gives_last = p.1.gives_last;
-      shows = p.1.shows;
-      totals =
+  p.0,
+  record {
+    before = q.outcomes ++ p.1.before;
+    last = p.1.last;
+    until = omega (arith, q.until, p.1.until, length-append q.outcomes p.1.before);
+    trials = trials-append g a b q.outcomes p.1.before q.until q.trials p.1.trials;
+    gives_last = p.1.gives_last;
+    shows = p.1.shows;
+    totals =
         (let P : List Outcome → Type 0 = λ os. Counts v os in
-         subst P (sym (append_assoc q.outcomes p.1.before (p.1.last ∷ []))) (counts-join t u v q.outcomes (p.1.before ++ p.1.last ∷ []) q.totals p.1.totals s));
-    },
-  )
+        subst P (sym (append_assoc q.outcomes p.1.before (p.1.last ∷ []))) (counts-join t u v q.outcomes (p.1.before ++ p.1.last ∷ []) q.totals p.1.totals s));
+  },
+)
 
 -- A search that found nothing, with its result as a variable.
 pub quiet_of : (g : ℕ → Outcome → Type 0) (a b : ℕ) (r : Option ℕ) (t : Totals) → Reports g a b r t → r ≡ None → IsQuiet g a b t
@@ -124,8 +124,9 @@ trials_show : (shows : ℕ → Type 0) (gives : ℕ → Outcome → Type 0) (a :
 trials_show shows gives a [] t n low high s = absurd (omega arith)
 trials_show shows gives a (o ∷ os) t n low high s =
     elim (eq-or-lt_of_le low) [
-      inl same ↦ false≢true (sym t.1 ∙ t.0.decides.1 (subst shows (sym same) s))
-    | inr over ↦ trials_show shows gives (a + 1) os t.2 n (omega arith) (omega arith) s ]
+      | inl same ↦ false≢true (sym t.1 ∙ t.0.decides.1 (subst shows (sym same) s))
+      | inr over ↦ trials_show shows gives (a + 1) os t.2 n (omega arith) (omega arith) s
+    ]
 
 quiet_shows : (shows : ℕ → Type 0) (gives : ℕ → Outcome → Type 0) (a b : ℕ) (os : List Outcome) → a + length os ≡ b → Trials (IsOutcome shows gives) a os → NoneShows shows a b
 quiet_shows shows gives a b os until t n low high = trials_show shows gives a os t n low (omega arith)
@@ -158,8 +159,9 @@ each_more {W} ready lanes i lane before l is r k d h =
     let low : k ≤ i = omega arith in
     let P : Lane W → Type 0 = λ x. ready x.worker in
     elim (eq-or-lt_of_le low) [
-      inl same ↦ subst P (get_or_read lanes i lane l is d ∙ ap (λ j. slice_index_or lanes j d) (sym same)) r
-    | inr under ↦ before k d under ]
+      | inl same ↦ subst P (get_or_read lanes i lane l is d ∙ ap (λ j. slice_index_or lanes j d) (sym same)) r
+      | inr under ↦ before k d under
+    ]
 
 -- The runs of one lane more.
 pub lanes_join : {W : Type 0} (ready : W → Type 0) (g : ℕ → Outcome → Type 0) (from until n i : ℕ) (lanes : List (Lane W)) (lane : Lane W) (found : Option ℕ) (t v : Totals)

@@ -1,4 +1,5 @@
 pub mod Bounds
 pub mod Counting
+pub mod RandomRuns
 pub mod Rounds
 pub mod Trials

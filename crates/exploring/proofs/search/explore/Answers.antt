@@ -13,7 +13,7 @@ pub returns-in-Some-clause-least : goal.returns-in-Some-clause-least
 returns-in-Some-clause-least g c =
     least_of (g.E.Experiment.shows c.args.experiment.now) (g.E.Experiment.gives c.args.experiment.now) c.args.first _ (Some c.in-Some.number) c.add.new.self
     (found_at (IsOutcome (g.E.Experiment.shows c.args.experiment.now) (g.E.Experiment.gives c.args.experiment.now)) _ _ _ _ _ _ c.in-Some.is (omega arith)
-     (reports-join _ _ _ _ _ _ _ _ c.loop-next.invariant.quiet c.add.ensures c.in_ok-report.ensures.reports))
+    (reports-join _ _ _ _ _ _ _ _ c.loop-next.invariant.quiet c.add.ensures c.in_ok-report.ensures.reports))
 
 pub loop-next-preserved : goal.loop-next-preserved
 loop-next-preserved g c = record {
@@ -22,9 +22,9 @@ loop-next-preserved g c = record {
   from = omega arith;
   within = omega arith;
   quiet =
-    quiet_of _ _ _ _ _
-    (reports-join _ _ _ _ _ _ _ _ c.loop-next.invariant.quiet c.add.ensures c.in_ok-report.ensures.reports)
-    c.in-None.is;
+      quiet_of _ _ _ _ _
+      (reports-join _ _ _ _ _ _ _ _ c.loop-next.invariant.quiet c.add.ensures c.in_ok-report.ensures.reports)
+      c.in-None.is;
 }
 
 pub returns-clause-least : goal.returns-clause-least

@@ -8,7 +8,7 @@ invariant-loop-next g l = record {
   ready : All (λ lane. g.E.Experiment.is_ready l.experiment lane.worker) l.lanes;
   from : l.first ≤ l.next;
   within : l.next ≤ l.first + l.count;
-  quiet : IsQuiet (IsOutcome (g.E.Experiment.shows l.experiment) (g.E.Experiment.gives l.experiment)) l.first l.next l.totals
+  quiet : IsQuiet (IsOutcome (g.E.Experiment.shows l.experiment) (g.E.Experiment.gives l.experiment)) l.first l.next l.totals;
 }
 
 abbrev pub decreases-loop-next : goal.decreases-loop-next

@@ -1,0 +1,49 @@
+-- A run of a number is the same each time.
+use Rattle.std.proofs.Common.{◌≡◌, ℕ, ◌≤◌, List, length, take, refl, sym, ap, subst, ◌∙◌, arith, Option, Some, None, Bool, true, false}
+use Rattle.std.specs.Prelude.{◌↔◌, IsTrue, is_some}
+use Rattle.std.proofs.lemmas.List.{take_all}
+use Rattle.std.proofs.lemmas.Bool.{false≢true}
+use Rattle.places.specs.declared.value.Change.{Change}
+use Rattle.scenario.specs.declared.event.Event.{Event}
+use Rattle.scenario.specs.declared.setup.Setup.{Setup}
+use Rattle.machine.specs.declared.whole.Machine.{Machine}
+use Rattle.machine.specs.Runs.{start, run, moment, Linked}
+use Rattle.machine.proofs.LinkedRuns.{linked_runs}
+use Rattle.runs.specs.Moments.{IsAt}
+use Rattle.finding_kinds.specs.declared.finding.Finding.{Finding}
+use Rattle.sampling.proofs.Repeating.{repeatable}
+use Rattle.symptoms.specs.declared.symptom.Sighting.{Sighting}
+use Rattle.symptoms.specs.Symptoms.{Shows}
+use Rattle.exploring.specs.declared.random_runs.RandomRuns.{RandomRuns}
+use Rattle.exploring.specs.RandomRuns.{HasEvents, RunShows, IsRun}
+use Rattle.exploring.specs.Trials.{IsLeast}
+
+-- The records also lead back from the machine that the events lead to.
+pub linked_to_run : (m n : Machine) (es : List Event) (rs : List (List Change)) → Linked m es rs n → Linked m es rs (run m es)
+linked_to_run m n es rs l = let P : Machine → Type 0 = λ x. Linked m es rs x in subst P (linked_runs m n es rs l) l
+
+-- A run shows the symptom if it has a sighting.
+pub shown_if_sighted : (r : RandomRuns) (n : ℕ) (es : List Event) (x : Option Sighting) (fs : List Finding) → IsRun r n es x fs → IsTrue (is_some x) ↔ RunShows r n
+shown_if_sighted r n es (Some x) fs q = (λ t. (es, q.events, x.moment, q.sighting.shown), λ s. refl)
+shown_if_sighted r n es None fs q = (
+  λ t. absurd (false≢true t),
+  λ s. absurd (q.sighting s.2 (let P : List Event → Type 0 = λ xs. Shows r.setup.now xs r.symptom s.2 in subst P (repeatable r.setup.now r.options r.seed n s.0 es s.1 q.events) s.3)),
+)
+
+pub shown_decided : (r : RandomRuns) (n : ℕ) (es : List Event) (x : Option Sighting) (fs : List Finding) (b : Bool) → b ≡ is_some x → IsRun r n es x fs → IsTrue b ↔ RunShows r n
+shown_decided r n es x fs b e q =
+    let P : Bool → Type 0 = λ y. IsTrue y ↔ RunShows r n in
+    subst P (sym e) (shown_if_sighted r n es x fs q)
+
+-- A run that was found has a sighting.
+pub found_sighted : (r : RandomRuns) (n a b : ℕ) (es : List Event) (x : Option Sighting) (fs : List Finding) (found : Option ℕ) → IsRun r n es x fs → IsLeast (RunShows r) a b found → found ≡ Some n → is_some x ≡ true
+found_sighted r n a b es x fs found q least e =
+    let P : Option ℕ → Type 0 = λ f. IsLeast (RunShows r) a b f in
+    let at : IsLeast (RunShows r) a b (Some n) = subst P e least in
+    (shown_if_sighted r n es x fs q).1 at.2
+
+-- The records of a prepared setup's run undo it.
+pub can_undo : (p s : Setup) (m : Machine) (es : List Event) (rs : List (List Change)) → p ≡ s → Linked (start p) es rs m → Linked (start s) es rs (run (start s) es)
+can_undo p s m es rs e l =
+    let P : Setup → Type 0 = λ x. Linked (start x) es rs (run (start x) es) in
+    subst P e (linked_to_run (start p) m es rs l)
