@@ -4,3 +4,4 @@ pub mod Offering
 pub mod RunLemmas
 pub mod Locking
 pub mod Deadlines
+pub mod Ending

@@ -57,7 +57,7 @@ step_is : (s : Source) (m : Machine) (t : ℕ) (f : Event) → step_offer s m t 
 unfolding step_offer
 step_is s m t f h = step_by t f ((s.unlocked || not (is_locked m)) || option_map_or holds (slice_get m.threads t) false) h
 
-no_thread : (m : Machine) (t : ℕ) → slice_get m.threads t ≡ None → refusal m (Step t) ≡ None → ⊥
+pub no_thread : (m : Machine) (t : ℕ) → slice_get m.threads t ≡ None → refusal m (Step t) ≡ None → ⊥
 no_thread m t e h = let k : thread_refusal m None ≡ None = subst (λ o. thread_refusal m o ≡ None) e h in cc
 
 pub threads_idle : (s : Source) (m : Machine) (n : ℕ) → length m.threads ≤ n → Idle s m n 16

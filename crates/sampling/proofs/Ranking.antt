@@ -79,7 +79,7 @@ refused : (o : Option Refusal) → is_none o ≡ false → o ≡ None → ⊥
 refused None n e = cc
 refused (Some x) n e = cc
 
-none_of : (o : Option Refusal) → is_none o ≡ true → o ≡ None
+pub none_of : (o : Option Refusal) → is_none o ≡ true → o ≡ None
 none_of None n = refl
 none_of (Some x) n = absurd (cc)
 

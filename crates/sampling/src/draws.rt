@@ -9,8 +9,8 @@ use rand_core::utils::NextWord;
 /// What a random run may do.
 #[derive(Clone, Copy)]
 pub struct SampleOptions {
-    /// Whether other threads may come between a thread's put, push and enter. Otherwise a thread
-    /// that has put or pushed goes on alone until its next Enter.
+    /// Whether threads may interleave between another thread's put, push and enter. Otherwise a
+    /// thread that has put or pushed runs alone until its next Enter, as if it held a lock.
     pub unlocked: bool,
     /// Whether no transfer is short, and no device fails.
     pub sound_device: bool,

@@ -1,4 +1,4 @@
-//! Random runs of a program, each repeatable from a seed and a run number.
+//! Random runs of a program by partial order sampling. A seed and a run number determine a run.
 #![tactic(auto)]
 
 mod choosing;

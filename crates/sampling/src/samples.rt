@@ -1,4 +1,5 @@
-//! Random runs.
+//! The events of a random run.
+ghost use Rattle.std.specs.Prelude.{◌≡◌, []};
 
 use machine::Event;
 use places::Record;
@@ -16,7 +17,10 @@ pub struct Sample {
 
 impl Sample {
     /// Returns an empty run. Doesn't allocate.
-    pub fn new(alloc: Global) -> Sample {
+    pub fn new(alloc: Global) -> Sample
+        ensures events { result.events.items ≡ [] }
+        ensures records { result.records.items ≡ [] }
+    {
         Sample {
             events: Vec::new(alloc),
             records: Vec::new(alloc),
