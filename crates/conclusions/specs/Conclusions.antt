@@ -11,12 +11,6 @@ use Rattle.exploring.specs.declared.random_runs.RandomRuns.{RandomRuns}
 use Rattle.exploring.specs.RandomRuns.{RunShows}
 use Rattle.rewriting.specs.Rewriting.{IsRewritten}
 
--- The runs of a setup that can start, each of at most 65,536 events.
-pub record AreRuns (r : RandomRuns) : Type 0 where
-  pub program : r.program.now ≡ r.setup.now
-  pub most : r.options.most ≤ 65536
-  pub kinds : length r.kinds.now ≤ 64
-
 -- A run of these events shows the symptom at a moment.
 pub record IsShown (s : Setup) (wanted : Symptom) (es : List Event) (m : ℕ) : Type 0 where
   pub runs : Accepts (start s) es

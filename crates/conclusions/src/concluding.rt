@@ -1,7 +1,8 @@
 //! The conclusion of a search.
 ghost use Rattle.std.specs.Prelude.{◌≡◌, ◌≤◌, length, IfOk, IfSome, is_some, None, false};
 ghost use Rattle.rewriting.specs.Rewriting.{IsRewritten};
-ghost use Rattle.conclusions.specs.Conclusions.{AreRuns, IsHit, IsScriptOf, IsShown, IsFoundScript};
+ghost use Rattle.exploring.specs.RandomRuns.{CanRun};
+ghost use Rattle.conclusions.specs.Conclusions.{IsHit, IsScriptOf, IsFoundScript};
 
 use crate::fault::ConclusionFault;
 use crate::shown::{Shown, sentence_of, shown_by};
@@ -65,7 +66,7 @@ fn report_of(
     number: u32,
     shown: &Shown,
 ) -> Result<String, AllocError>
-    requires runs { AreRuns runs.now }
+    requires runs { CanRun runs.now }
     requires most { length shown.now.shrunk.events.items ≤ 65536 }
 {
     let seen = seen_by(runs.alloc, runs.kinds, totals)?;
@@ -140,7 +141,7 @@ pub fn conclude(
     found: Option<u32>,
     totals: &Totals,
 ) -> Result<Conclusion, ConclusionFault>
-    requires runs { AreRuns runs.now }
+    requires runs { CanRun runs.now }
     requires hit { IsHit runs.now found }
     requires text { IsScriptOf reporting.script.now runs.now.setup.now }
     ensures found { IfOk result (λ c. c.is_found ≡ is_some found) }

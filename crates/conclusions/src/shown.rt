@@ -3,8 +3,8 @@ ghost use Rattle.std.specs.Prelude.{◌≡◌, ◌≤◌, length, IfOk, IfNone, 
 ghost use Rattle.scenario.specs.Setups.{setup_refusal};
 ghost use Rattle.machine.specs.Runs.{start, Accepts};
 ghost use Rattle.symptoms.specs.Symptoms.{IsFirst};
-ghost use Rattle.exploring.specs.RandomRuns.{HasEvents, RunShows};
-ghost use Rattle.conclusions.specs.Conclusions.{AreRuns, IsShown};
+ghost use Rattle.exploring.specs.RandomRuns.{CanRun, HasEvents, RunShows};
+ghost use Rattle.conclusions.specs.Conclusions.{IsShown};
 
 use exploring::{RandomRuns, Worker};
 use finding_kinds::Finding;
@@ -26,7 +26,7 @@ pub(crate) struct Shown {
 
 // Makes a run again, and returns its events.
 fn events_of(runs: &RandomRuns<'_>, number: u32) -> Result<Vec<Event>, AllocError>
-    requires { AreRuns runs.now }
+    requires { CanRun runs.now }
     ensures events { IfOk result (λ events. HasEvents runs.now number events.items) }
     ensures most { IfOk result (λ events. length events.items ≤ 65536) }
 {
@@ -37,7 +37,7 @@ fn events_of(runs: &RandomRuns<'_>, number: u32) -> Result<Vec<Event>, AllocErro
 
 // Returns where events show the symptom.
 fn sighting_of(runs: &RandomRuns<'_>, events: &[Event]) -> Result<Option<Sighting>, AllocError>
-    requires runs { AreRuns runs.now }
+    requires runs { CanRun runs.now }
     requires most { length events.now ≤ 65536 }
     ensures accepts { IfOk result (λ _. Accepts (start runs.now.setup.now) events.now) }
     ensures first { IfOk result (IsFirst runs.now.setup.now events.now runs.now.symptom) }
@@ -53,7 +53,7 @@ fn sighting_of(runs: &RandomRuns<'_>, events: &[Event]) -> Result<Option<Sightin
 
 /// Makes a run that shows the symptom again, and makes it short. The result is never None.
 pub(crate) fn shown_by(runs: &RandomRuns<'_>, number: u32) -> Result<Option<Shown>, AllocError>
-    requires runs { AreRuns runs.now }
+    requires runs { CanRun runs.now }
     requires shows { RunShows runs.now number }
     ensures some { IfOk result (λ shown. IfNone shown ⊥) }
     ensures shown { IfOk result (λ shown. IfSome shown (λ x. IsShown runs.now.setup.now

@@ -1,9 +1,9 @@
 //! The `explore` subcommand: searches random runs of a script.
-ghost use Rattle.std.specs.Prelude.{◌≡◌, ◌≤◌, None, All, IfOk, length};
+ghost use Rattle.std.specs.Prelude.{◌≡◌, ◌≤◌, None};
 ghost use Rattle.scenario.specs.Setups.{setup_refusal};
-ghost use Rattle.machine.specs.Runs.{start};
 ghost use Rattle.debug_server.specs.Jobs.{IsSearch, AreThreads};
-ghost use Rattle.conclusions.specs.Conclusions.{AreRuns, IsScriptOf};
+ghost use Rattle.exploring.specs.RandomRuns.{CanRun};
+ghost use Rattle.conclusions.specs.Conclusions.{IsScriptOf};
 
 use crate::explaining::kinds_of;
 use crate::output::{Output, write_text};
@@ -11,12 +11,11 @@ use crate::progress::Progress;
 use crate::{SCRIPT_AND_ONE, fail, file_fault};
 use conclusions::{Conclusion, ConclusionFault, Reporting, conclude, symptom_of};
 use debug_server::{Exploration, Fault, KINDS, RunFault};
-use exploring::{Lane, RandomRuns, Worker, explore};
+use exploring::{RandomRuns, explore};
 use machine::Setup;
 use rewriting::RewriteFault;
 use sampling::{Program, SampleOptions};
 use script::{ScriptFault, read_script};
-use std::alloc::{AllocError, Global};
 use std::process::ExitCode;
 use std::rt::Files;
 use std::thread;
@@ -33,6 +32,9 @@ const FOUND: u8 = 3;
 
 /// The most threads of a search.
 const MOST_THREADS: usize = 64;
+
+/// The most kinds that a search counts. There are fewer.
+const MOST_KINDS: usize = 64;
 
 /// The message if the script would be too long.
 const NO_ROOM: &str = "SCRIPT would have more than 8388608 bytes with the schedule that was found";
@@ -72,19 +74,6 @@ fn thread_count(rt: &impl Threads, threads: Option<u32>) -> usize
     }
 }
 
-// Returns a worker for each thread.
-fn lanes_of(alloc: Global, setup: &Setup, count: usize) -> Result<Vec<Lane<Worker>>, AllocError>
-    ensures count { IfOk result (λ lanes. length lanes.items ≡ count) }
-    ensures start { IfOk result (λ lanes. All (λ (lane : Lane Worker). lane.worker.state ≡ start setup.now)
-        lanes.items) }
-{
-    let mut lanes = Vec::new(alloc);
-    for _ in 0..count {
-        lanes.push(Lane::new(Worker::new(alloc, setup)?))?;
-    }
-    Ok(lanes)
-}
-
 // Searches, and returns what to print and to write.
 fn conclusion_of<R: Eprint + Threads + Clock + Sync>(
     rt: &R,
@@ -92,11 +81,11 @@ fn conclusion_of<R: Eprint + Threads + Clock + Sync>(
     runs: &RandomRuns<'_>,
 ) -> Result<Conclusion, ConclusionFault>
     requires words { IsSearch task.words.now }
-    requires runs { AreRuns runs.now }
+    requires runs { CanRun runs.now }
     requires script { IsScriptOf task.script.now runs.now.setup.now }
 {
     let words = task.words;
-    let mut lanes = lanes_of(runs.alloc, runs.setup, thread_count(rt, words.threads))?;
+    let mut lanes = runs.lanes(thread_count(rt, words.threads))?;
     let mut progress = Progress::new(rt, task.is_terminal);
     let report = explore(rt, runs, &mut lanes, words.first, words.runs, |count| {
         progress.show(rt, count)
@@ -159,7 +148,7 @@ fn explore_for<R: Files + Print + Eprint + AllocGlobal + Threads + Clock + Sync>
         },
         seed: words.seed,
         symptom,
-        kinds: &kinds,
+        kinds: &kinds[..kinds.len().min(MOST_KINDS)],
     };
     match conclusion_of(rt, task, &runs) {
         Ok(conclusion) => present(rt, words.out, conclusion),
