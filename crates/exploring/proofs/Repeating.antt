@@ -1,21 +1,23 @@
 -- A run of a number is the same each time.
-use Rattle.std.proofs.Common.{◌≡◌, ℕ, ◌≤◌, List, length, take, refl, sym, ap, subst, ◌∙◌, arith, Option, Some, None, Bool, true, false}
+use Rattle.std.proofs.Common.{◌≡◌, ℕ, List, refl, sym, subst, arith, Option, Some, None, Bool, true, zero, suc, [], ◌∷◌, ◌++◌}
 use Rattle.std.specs.Prelude.{◌↔◌, IsTrue, is_some}
-use Rattle.std.proofs.lemmas.List.{take_all}
 use Rattle.std.proofs.lemmas.Bool.{false≢true}
 use Rattle.places.specs.declared.value.Change.{Change}
 use Rattle.scenario.specs.declared.event.Event.{Event}
 use Rattle.scenario.specs.declared.setup.Setup.{Setup}
 use Rattle.machine.specs.declared.whole.Machine.{Machine}
-use Rattle.machine.specs.Runs.{start, run, moment, Linked}
+use Rattle.machine.specs.Runs.{start, run, Linked}
 use Rattle.machine.proofs.LinkedRuns.{linked_runs}
-use Rattle.runs.specs.Moments.{IsAt}
 use Rattle.finding_kinds.specs.declared.finding.Finding.{Finding}
 use Rattle.sampling.proofs.Repeating.{repeatable}
 use Rattle.symptoms.specs.declared.symptom.Sighting.{Sighting}
 use Rattle.symptoms.specs.Symptoms.{Shows}
+use Rattle.std.specs.List.{All}
+use Rattle.std.proofs.lemmas.List.Elements.{All-append}
+use Rattle.exploring.specs.declared.lanes.Lane.{Lane}
+use Rattle.exploring.specs.declared.random_runs.Worker.{Worker}
 use Rattle.exploring.specs.declared.random_runs.RandomRuns.{RandomRuns}
-use Rattle.exploring.specs.RandomRuns.{HasEvents, RunShows, IsRun}
+use Rattle.exploring.specs.RandomRuns.{RunShows, IsRun, IsReady}
 use Rattle.exploring.specs.Trials.{IsLeast}
 
 -- The records also lead back from the machine that the events lead to.
@@ -47,3 +49,15 @@ pub can_undo : (p s : Setup) (m : Machine) (es : List Event) (rs : List (List Ch
 can_undo p s m es rs e l =
     let P : Setup → Type 0 = λ x. Linked (start x) es rs (run (start x) es) in
     subst P e (linked_to_run (start p) m es rs l)
+
+-- ---- Lanes
+
+one_ready : (r : RandomRuns) (lane : Lane Worker) → IsReady r lane.worker → All (λ (l : Lane Worker). IsReady r l.worker) (lane ∷ [])
+one_ready r lane p zero d h = p
+one_ready r lane p (suc k) d h = absurd (omega (arith, h))
+
+-- One lane more.
+pub ready_push : (r : RandomRuns) (xs ys : List (Lane Worker)) (lane : Lane Worker) → ys ≡ xs ++ lane ∷ [] → All (λ (l : Lane Worker). IsReady r l.worker) xs → IsReady r lane.worker → All (λ (l : Lane Worker). IsReady r l.worker) ys
+ready_push r xs ys lane e all p =
+    let P : List (Lane Worker) → Type 0 = λ zs. All (λ (l : Lane Worker). IsReady r l.worker) zs in
+    subst P (sym e) (All-append (λ (l : Lane Worker). IsReady r l.worker) xs (lane ∷ []) all (one_ready r lane p))

@@ -50,11 +50,16 @@ pub record RunGives (r : RandomRuns) (n : ℕ) (o : Outcome) : Type 0 where
   pub events : o.events ≡ length event_list
   pub kinds : SaysKinds r.kinds.now findings o.kinds
 
--- A worker is at the start of the program.
-pub record IsReady (r : RandomRuns) (w : Worker) : Type 0 where
+-- The program is that of the setup, the runs are short enough to be searched, and there are few
+-- enough kinds to count.
+pub record CanRun (r : RandomRuns) : Type 0 where
   pub program : r.program.now ≡ r.setup.now
   pub most : r.options.most ≤ 65536
   pub kinds : length r.kinds.now ≤ 64
+
+-- A worker is at the start of the program.
+pub record IsReady (r : RandomRuns) (w : Worker) : Type 0 where
+  pub runs : CanRun r
   pub at_start : w.state ≡ start r.setup.now
 
 -- The records of a worker's sample undo the run of its events.

@@ -1,11 +1,12 @@
 //! The random runs of a program, of which some may show a symptom.
-ghost use Rattle.std.specs.Prelude.{◌≡◌, ◌≢◌, ◌<◌, ◌≤◌, ℕ, length, OnOk, IfOk, if◌then◌else◌};
+ghost use Rattle.std.specs.Prelude.{◌≡◌, ◌≢◌, ◌<◌, ◌≤◌, ℕ, length, vec_len, All, OnOk, IfOk, if◌then◌else◌};
 ghost use Rattle.std.specs.Int.{bit_at};
 ghost use Rattle.machine.specs.Runs.{start};
 ghost use Rattle.symptoms.specs.Symptoms.{IsFirst, IsSearched};
 ghost use Rattle.exploring.specs.RandomRuns.{SaysKinds, has_kind};
 
 use crate::experiment::Experiment;
+use crate::lanes::Lane;
 use crate::outcome::Outcome;
 use finding_kinds::{Finding, Kind};
 use machine::State;
@@ -61,7 +62,21 @@ impl Worker {
 }
 
 impl RandomRuns<'_> {
-    ghost use Rattle.exploring.specs.RandomRuns.{HasEvents, IsRun, IsReady, CanUndo};
+    ghost use Rattle.exploring.specs.RandomRuns.{CanRun, HasEvents, IsRun, IsReady, CanUndo};
+
+    /// Returns so many lanes, whose workers have made no run.
+    pub fn lanes(&self, count: usize) -> Result<Vec<Lane<Worker>>, AllocError>
+        requires { CanRun self.now }
+        ensures len { IfOk result (λ lanes. vec_len lanes ≡ count) }
+        ensures ready { IfOk result
+            (λ lanes. All (λ lane. IsReady self.now lane.worker) lanes.items) }
+    {
+        let mut lanes = Vec::new(self.alloc);
+        for _index in 0..count {
+            lanes.push(Lane::new(Worker::new(self.alloc, self.setup)?))?;
+        }
+        Ok(lanes)
+    }
 
     /// Makes run `number`, and looks for the symptom. The worker then has the events.
     pub fn examine_run(&self, worker: &mut Worker, number: u32) -> Result<Examined, AllocError>
@@ -160,7 +175,6 @@ fn has_kind(findings: &[Finding], kind: Kind) -> bool
         .iter()
         .any(|finding| kind.has_name_of(finding.kind))
 }
-
 
 // Returns the bits with bit `k` set if it is on.
 fn with_bit(bits: u64, k: usize, on: bool) -> u64
