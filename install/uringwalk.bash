@@ -19,6 +19,9 @@ _uringwalk_options() {
         trace) echo "--form --eager" ;;
         log | timeline) echo "--from --to" ;;
         explain) echo "--kind --allow --json" ;;
+        explore)
+            echo "--kind --until --runs --seed --first --events --out --unlocked --sound-device --threads --json"
+            ;;
         live) echo "--turns --kernel --trace" ;;
         serve) echo "--port --turns --kernel --clients" ;;
     esac
@@ -27,9 +30,9 @@ _uringwalk_options() {
 # Prints the files that a word takes, in their order: a script, or any file. "explain" takes any number of files.
 _uringwalk_operands() {
     case $1 in
-        walk | check | live | serve) echo "script" ;;
+        walk | check | explore | live | serve) echo "script" ;;
         trace) echo "script file" ;;
-        migrate) echo "script file file" ;;
+        migrate | schedule) echo "script file file" ;;
         replay | log) echo "file" ;;
         timeline) echo "file file" ;;
     esac
@@ -61,7 +64,7 @@ _uringwalk_after() {
     fi
 }
 
-_uringwalk_words="walk check trace migrate replay log explain timeline live serve help"
+_uringwalk_words="walk check trace migrate replay log explain timeline explore schedule live serve help"
 
 _uringwalk() {
     local current=$2 word="" option="" files=0 typed=("${COMP_WORDS[@]:1:COMP_CWORD-1}") it
@@ -70,7 +73,8 @@ _uringwalk() {
     for it in "${typed[@]}"; do
         case $it in
             "=") ;;
-            --form | --kind | --allow | --from | --to | --turns | --kernel | --port | --clients | --trace) option=$it ;;
+            --form | --kind | --allow | --from | --to | --turns | --kernel | --port | --clients | --trace | \
+                --until | --runs | --seed | --first | --events | --out | --threads) option=$it ;;
             -*) option="" ;;
             *)
                 if [[ -n $option ]]; then
@@ -83,7 +87,7 @@ _uringwalk() {
                 ;;
         esac
     done
-    if [[ $option == --trace ]]; then
+    if [[ $option == --trace || $option == --out ]]; then
         _uringwalk_file file "$current"
     elif [[ -n $option ]]; then
         mapfile -t COMPREPLY < <(compgen -W "$(_uringwalk_values "$option")" -- "$current")

@@ -22,13 +22,15 @@ complete -c uringwalk -n __uringwalk_has_no_word -a replay -d 'Run a trace of fo
 complete -c uringwalk -n __uringwalk_has_no_word -a log -d 'Print each event, and what it changed'
 complete -c uringwalk -n __uringwalk_has_no_word -a explain -d 'Print what went wrong, and when'
 complete -c uringwalk -n __uringwalk_has_no_word -a timeline -d 'Draw a run, moment by moment'
+complete -c uringwalk -n __uringwalk_has_no_word -a explore -d 'Look for a schedule that goes wrong'
+complete -c uringwalk -n __uringwalk_has_no_word -a schedule -d 'Put a trace\'s events into a script'
 complete -c uringwalk -n __uringwalk_has_no_word -a live -d 'Run a script\'s threads side by side'
 complete -c uringwalk -n __uringwalk_has_no_word -a serve -d 'Run a script\'s threads for clients'
 complete -c uringwalk -n __uringwalk_has_no_word -a help -d 'Print the usage of the program or of a word'
-complete -c uringwalk -n '__uringwalk_word_is help' -a 'walk check trace migrate replay log explain timeline live serve'
+complete -c uringwalk -n '__uringwalk_word_is help' -a 'walk check trace migrate replay log explain timeline explore schedule live serve'
 
 # The files. Where a script is expected, names that end in .json come first.
-complete -c uringwalk -n '__uringwalk_word_is walk check trace migrate live serve' -k -a '(__fish_complete_suffix .json)'
+complete -c uringwalk -n '__uringwalk_word_is walk check trace migrate explore schedule live serve' -k -a '(__fish_complete_suffix .json)'
 complete -c uringwalk -n '__uringwalk_word_is replay log explain timeline' -F
 
 # The options of each word.
@@ -43,6 +45,17 @@ complete -c uringwalk -n '__uringwalk_word_is log timeline' -l to -x -d 'The eve
 complete -c uringwalk -n '__uringwalk_word_is explain' -l json -d 'Print JSON'
 complete -c uringwalk -n '__uringwalk_word_is explain' -l kind -x -d 'Findings of this kind alone' -a "$kinds"
 complete -c uringwalk -n '__uringwalk_word_is explain' -l allow -x -d 'Faults of this kind don\'t count' -a "$kinds"
+complete -c uringwalk -n '__uringwalk_word_is explore' -l kind -x -d 'Look for this kind alone' -a "$kinds"
+complete -c uringwalk -n '__uringwalk_word_is explore' -l until -x -d 'Look for a place that gets a value'
+complete -c uringwalk -n '__uringwalk_word_is explore' -l runs -x -d 'How many runs there are'
+complete -c uringwalk -n '__uringwalk_word_is explore' -l seed -x -d 'The seed of the runs'
+complete -c uringwalk -n '__uringwalk_word_is explore' -l first -x -d 'The number of the first run'
+complete -c uringwalk -n '__uringwalk_word_is explore' -l events -x -d 'The most events of a run'
+complete -c uringwalk -n '__uringwalk_word_is explore' -l out -r -F -d 'The script to write'
+complete -c uringwalk -n '__uringwalk_word_is explore' -l unlocked -d 'Threads come between another\'s put, push and enter'
+complete -c uringwalk -n '__uringwalk_word_is explore' -l sound-device -d 'No transfer ends short or with EIO'
+complete -c uringwalk -n '__uringwalk_word_is explore' -l threads -x -d 'How many threads make the runs'
+complete -c uringwalk -n '__uringwalk_word_is explore' -l json -d 'Print JSON'
 complete -c uringwalk -n '__uringwalk_word_is live serve' -l turns -x -d 'How many turns each thread has'
 complete -c uringwalk -n '__uringwalk_word_is live serve' -l kernel -x -d 'How many kernel workers there are'
 complete -c uringwalk -n '__uringwalk_word_is live' -l trace -r -F -d 'The trace to write'

@@ -11,6 +11,8 @@ _uringwalk_words() {
     'log:print each event of a script or a trace, and what it changed'
     'explain:print what went wrong in a script or a trace, and when'
     'timeline:draw a script or a trace, moment by moment'
+    'explore:look for a schedule of a script that goes wrong'
+    "schedule:put a trace's events into a script as its schedule"
     "live:run a script's threads side by side, and answer commands"
     "serve:run a script's threads side by side, and answer commands of clients"
     'help:print the usage of the program or of a word'
@@ -62,6 +64,24 @@ _uringwalk() {
     timeline)
       _arguments $usage "$from" "$to" \
         '1:script or trace:_files' '2:picture to write:_files'
+      ;;
+    explore)
+      _arguments $usage \
+        "*--kind=[look for this kind alone]:kind:($kinds)" \
+        '(--kind)--until=[look for a place that gets a value]:place = value' \
+        '--runs=[how many runs there are, 1 to 1000000]:runs' \
+        '--seed=[the seed of the runs]:seed' \
+        '--first=[the number of the first run]:run' \
+        '--events=[the most events of a run, 1 to 65536]:events' \
+        '--out=[the script to write]:script to write:_files' \
+        "--unlocked[let threads come between another's put, push and enter]" \
+        '--sound-device[have no transfer end short or with EIO]' \
+        '--threads=[how many threads make the runs, 1 to 64]:threads' \
+        '--json[print JSON]' "1:script:$script"
+      ;;
+    schedule)
+      _arguments $usage \
+        "1:script:$script" '2:trace:_files' '3:script to write:_files'
       ;;
     live)
       _arguments $usage "$turns" "$kernel" \

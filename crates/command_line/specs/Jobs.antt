@@ -1,9 +1,10 @@
 -- The jobs that a command line describes.
-use Rattle.std.specs.Prelude.{◌≡◌, ◌≤◌, ℕ, Option, Some, None}
+use Rattle.std.specs.Prelude.{◌≡◌, ◌≤◌, ◌+◌, ℕ, Option, Some, None, IsSomeAnd}
+use Rattle.command_line.specs.declared.task.Exploration.{Exploration}
 use Rattle.command_line.specs.declared.task.Job.{Job}
-use Rattle.command_line.specs.declared.task.Job.TheVariants.{Walk, Replay, Log, Check, Explain, Timeline, Live, Serve, Trace, Migrate}
+use Rattle.command_line.specs.declared.task.Job.TheVariants.{Walk, Replay, Log, Check, Explain, Timeline, Explore, Schedule, Live, Serve, Trace, Migrate}
 
--- A trace would be written to the path of its script.
+-- A file would be written to the path of the script that it is made from.
 abbrev pub LosesScript : Job → Type 0
 LosesScript (Walk script) = ⊥
 LosesScript (Replay trace) = ⊥
@@ -11,6 +12,8 @@ LosesScript (Log run from to) = ⊥
 LosesScript (Check script) = ⊥
 LosesScript (Explain runs kinds allowed json) = ⊥
 LosesScript (Timeline run out from to) = ⊥
+LosesScript (Explore search) = IsSomeAnd search.out (λ out. out.now ≡ search.script.now)
+LosesScript (Schedule script trace out) = out.now ≡ script.now
 LosesScript (Live script turns kernel None) = ⊥
 LosesScript (Live script turns kernel (Some out)) = out.now ≡ script.now
 LosesScript (Serve script port turns kernel clients) = ⊥
@@ -26,8 +29,23 @@ abbrev pub AreClients : ℕ → Option ℕ → Type 0
 AreClients port None = (1 ≤ port) × (port ≤ 65535)
 AreClients port (Some clients) = ((1 ≤ port) × (port ≤ 65535)) × ((1 ≤ clients) × (clients ≤ 1000000))
 
--- Each number of a live run or a server is in its range.
+-- The ranges of the numbers of a search: how many runs, the first run, and the most events of a run.
+abbrev pub AreRuns : ℕ → ℕ → ℕ → Type 0
+AreRuns runs first events =
+    ((1 ≤ runs) × (runs ≤ 1000000)) × (first + runs ≤ 4294967296) × ((1 ≤ events) × (events ≤ 65536))
+
+-- The range of the number of threads of a search, if it has one.
+abbrev pub AreThreads : Option ℕ → Type 0
+AreThreads None = Unit {0}
+AreThreads (Some threads) = (1 ≤ threads) × (threads ≤ 64)
+
+-- Each number of a search is in its range.
+abbrev pub IsSearch : Exploration → Type 0
+IsSearch search = AreRuns search.runs search.first search.events × AreThreads search.threads
+
+-- Each number of a live run, a server or a search is in its range.
 abbrev pub IsInRange : Job → Type 0
 IsInRange (Live script turns kernel out) = AreInRange turns kernel
 IsInRange (Serve script port turns kernel clients) = AreInRange turns kernel × AreClients port clients
+IsInRange (Explore search) = IsSearch search
 IsInRange job = Unit {0}

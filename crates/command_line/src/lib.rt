@@ -6,5 +6,6 @@ mod task;
 mod version;
 mod words;
 
-pub use task::{Form, Job};
+pub use table::KINDS;
+pub use task::{Exploration, Form, Job};
 pub use words::job;

@@ -11,6 +11,8 @@ pub enum Verb {
     Log,
     Explain,
     Timeline,
+    Explore,
+    Schedule,
     Live,
     Serve,
 }
@@ -26,6 +28,10 @@ pub enum Shape {
     Named(&'static str),
     /// This option with a number.
     Number(&'static str),
+    /// The seed of a search.
+    Seed,
+    /// A place and a value, in place of kinds.
+    Until,
     /// A port, which is required.
     Port,
     /// The form of a trace, 1 or 2.
@@ -73,6 +79,12 @@ const EXPLAINED: &str =
 const DRAWN: &str =
     "OUT ends in .html for a page that a browser opens without a network, or in .json for trace events that Perfetto and chrome://tracing open. Creates or replaces OUT, which can't be RUN's own file. A run of more than 5000 events needs both --from and --to. RUN - is standard input. Example:\n  uringwalk timeline examples/severed_link/script.json severed_link.html";
 
+const EXPLORED: &str =
+    "Makes random runs of the threads, the poller and the kernel, each of which a seed and a number repeat, and looks for the first that shows a fault. The script's own schedule isn't used. Prints what was found, with the shortest schedule for it that the search knows. The status is 3 if something was found. Kinds failed and short count only where --kind names them. Example:\n  uringwalk explore examples/lost_wake_up/script.json --out found.json\n  uringwalk explain found.json";
+
+const SCHEDULED: &str =
+    "Writes the text of SCRIPT with the events of TRACE as its schedule. Creates or replaces OUT, which can't be SCRIPT's or TRACE's own file. Example:\n  uringwalk live examples/words_in_a_pipe/script.json --trace words.trace <examples/words_in_a_pipe/stdin\n  uringwalk schedule examples/words_in_a_pipe/script.json words.trace words.json";
+
 const LIVE: &str =
     "Runs each thread of the script, the poller if there is one, and each kernel worker in a thread of its own, all at once; the script's schedule isn't used. Prints closed E, with E the number of events, and then reads commands as walk does. The next run may differ: --trace saves this one for replay. Example:\n  uringwalk live examples/words_in_a_pipe/script.json --trace words.trace <examples/words_in_a_pipe/stdin\n  echo where | uringwalk replay words.trace";
 
@@ -103,6 +115,12 @@ const WORKERS: Operand = Operand {
     name: "Q",
     help: "Number of kernel workers: 1 to 8, default 2",
     shape: Shape::Number("kernel"),
+};
+
+const TRACE: Operand = Operand {
+    name: "TRACE",
+    help: "Trace file of form 2, as trace writes it",
+    shape: Shape::File,
 };
 
 /// The names of the kinds of findings. `tests/documents` compares them with those that `explain`
@@ -156,6 +174,17 @@ pub const OPTIONS: &str = "Options of the commands:
             --json          Print the findings as JSON, default text
   timeline  --from <M>      First event to draw: 0 to 4294967295, default 0
             --to <N>        Event to stop before: 0 to 4294967295, default all
+  explore   --kind <KIND>   Look for this kind alone, default all faults but failed and short; may be repeated
+            --until <P = V> Look for a moment at which this place gets this value, default none
+            --runs <N>      Number of runs: 1 to 1000000, default 10000
+            --seed <S>      Seed of the runs: 0 to 18446744073709551615, default 1
+            --first <I>     Number of the first run, default 0
+            --events <M>    Most events of a run: 1 to 65536, default 65536
+            --out <OUT>     Script file to write with the schedule that was found, default none
+            --unlocked      Let threads come between another's put, push and enter
+            --sound-device  Have no transfer end short or with EIO
+            --threads <T>   Number of threads that make the runs: 1 to 64, default one per processor
+            --json          Print the result as JSON, default text
   live      --turns <N>     Turns of each thread, of the poller and of each kernel worker: 1 to 1000000, default 1000
             --kernel <Q>    Number of kernel workers: 1 to 8, default 2
             --trace <OUT>   Trace file to write, default none
@@ -169,8 +198,8 @@ Example: echo where | uringwalk walk examples/one_nop.json";
 /// The forms of a trace.
 pub const FORMS: &[&str] = &["1", "2"];
 
-/// The commands, as help lists them.
-pub const WORDS: &[Word] = &[
+// The commands that walk, check and write scripts and traces, as help lists them.
+const FILE_WORDS: &[Word] = &[
     Word {
         verb: Verb::Walk,
         name: "walk",
@@ -233,11 +262,7 @@ pub const WORDS: &[Word] = &[
         name: "replay",
         about: "Run a trace of form 2, then read debugger commands from standard input",
         after: COMMANDS,
-        operands: &[Operand {
-            name: "TRACE",
-            help: "Trace file of form 2, as trace writes it",
-            shape: Shape::File,
-        }],
+        operands: &[TRACE],
     },
     Word {
         verb: Verb::Log,
@@ -258,6 +283,10 @@ pub const WORDS: &[Word] = &[
             },
         ],
     },
+];
+
+// The commands that report on runs and search them.
+const REPORT_WORDS: &[Word] = &[
     Word {
         verb: Verb::Explain,
         name: "explain",
@@ -311,6 +340,89 @@ pub const WORDS: &[Word] = &[
         ],
     },
     Word {
+        verb: Verb::Explore,
+        name: "explore",
+        about: "Search random runs of a script for one that goes wrong, and shrink its schedule",
+        after: EXPLORED,
+        operands: &[
+            SCRIPT,
+            Operand {
+                name: "KIND",
+                help: "Look for this kind alone, default all faults but failed and short; may be repeated",
+                shape: Shape::Kind("kind"),
+            },
+            Operand {
+                name: "UNTIL",
+                help: "Look for a moment at which this place gets this value, default none",
+                shape: Shape::Until,
+            },
+            Operand {
+                name: "N",
+                help: "Number of runs: 1 to 1000000, default 10000",
+                shape: Shape::Number("runs"),
+            },
+            Operand {
+                name: "S",
+                help: "Seed of the runs: 0 to 18446744073709551615, default 1",
+                shape: Shape::Seed,
+            },
+            Operand {
+                name: "I",
+                help: "Number of the first run, default 0; I + N is at most 4294967296",
+                shape: Shape::Number("first"),
+            },
+            Operand {
+                name: "M",
+                help: "Most events of a run: 1 to 65536, default 65536",
+                shape: Shape::Number("events"),
+            },
+            Operand {
+                name: "OUT",
+                help: "Script file to write with the schedule that was found, default none",
+                shape: Shape::Named("out"),
+            },
+            Operand {
+                name: "unlocked",
+                help: "Let threads come between another's put, push and enter",
+                shape: Shape::Flag("unlocked"),
+            },
+            Operand {
+                name: "sound-device",
+                help: "Have no transfer end short or with EIO",
+                shape: Shape::Flag("sound-device"),
+            },
+            Operand {
+                name: "T",
+                help: "Number of threads that make the runs: 1 to 64, default one per processor",
+                shape: Shape::Number("threads"),
+            },
+            Operand {
+                name: "json",
+                help: "Print the result as JSON, default text",
+                shape: Shape::Flag("json"),
+            },
+        ],
+    },
+    Word {
+        verb: Verb::Schedule,
+        name: "schedule",
+        about: "Write a script with a trace's events as its schedule",
+        after: SCHEDULED,
+        operands: &[
+            SCRIPT,
+            TRACE,
+            Operand {
+                name: "OUT",
+                help: "Script file to write",
+                shape: Shape::File,
+            },
+        ],
+    },
+];
+
+// The commands that run threads.
+const THREAD_WORDS: &[Word] = &[
+    Word {
         verb: Verb::Live,
         name: "live",
         about: "Run a script's threads in parallel, then read debugger commands from standard input",
@@ -348,3 +460,18 @@ pub const WORDS: &[Word] = &[
         ],
     },
 ];
+
+/// Returns the first commands, as help lists them.
+pub fn file_words() -> &'static [Word] {
+    FILE_WORDS
+}
+
+/// Returns the commands after them.
+pub fn report_words() -> &'static [Word] {
+    REPORT_WORDS
+}
+
+/// Returns the last commands.
+pub fn thread_words() -> &'static [Word] {
+    THREAD_WORDS
+}

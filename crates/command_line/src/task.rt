@@ -9,6 +9,32 @@ pub enum Form {
     Whole,
 }
 
+/// The words of `explore`.
+#[derive(Drop)]
+pub struct Exploration<'a> {
+    pub script: &'a str,
+    /// The names of the kinds to look for, or none to look for faults.
+    pub kinds: Vec<&'a str>,
+    /// The text `P = V` of a place and a value to look for instead.
+    pub until: Option<&'a str>,
+    /// The number of runs, 1 to 1000000.
+    pub runs: u32,
+    pub seed: u64,
+    /// The number of the first run. The number after the last run is at most 4294967296.
+    pub first: u32,
+    /// The most events of a run, 1 to 65536.
+    pub events: u32,
+    /// The file to write the script to with the schedule that was found.
+    pub out: Option<&'a str>,
+    /// Whether threads come between another's put, push and enter.
+    pub unlocked: bool,
+    /// Whether no transfer ends short or with EIO.
+    pub sound_device: bool,
+    /// 1 to 64, or none for as many as there are processors.
+    pub threads: Option<u32>,
+    pub json: bool,
+}
+
 /// A subcommand with its arguments and options. Files are named by their paths. The script of
 /// `Check` and the runs of `Log`, `Explain` and `Timeline` may be `-`, which is standard input.
 #[derive(Drop)]
@@ -43,6 +69,14 @@ pub enum Job<'a> {
         out: &'a str,
         from: Option<u32>,
         to: Option<u32>,
+    },
+    /// Searches random runs of a script for one that goes wrong.
+    Explore(Exploration<'a>),
+    /// Writes a script with the events of a trace of form 2 as its schedule to the file `out`.
+    Schedule {
+        script: &'a str,
+        trace: &'a str,
+        out: &'a str,
     },
     /// Runs the threads of a script, its poller if it has one, and `kernel` kernel workers side by
     /// side, each for `turns` turns. Then it answers commands. If there is an `out`, the trace of

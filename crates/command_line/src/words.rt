@@ -1,15 +1,17 @@
 //! Reads the words of the command line.
 ghost use Rattle.std.specs.Prelude.{◌↔◌, IsTrue, IfOk, IfNone};
-ghost use Rattle.command_line.specs.Jobs.{LosesScript, IsInRange, AreInRange, AreClients};
+ghost use Rattle.command_line.specs.Jobs.{LosesScript, IsInRange, AreInRange, AreClients, AreRuns, AreThreads};
 
-use crate::table::{FORMS, KINDS, OPTIONS, Operand, Shape, Verb, WORDS, Word};
-use crate::task::{Form, Job};
+use crate::table::{
+    FORMS, KINDS, OPTIONS, Operand, Shape, Verb, Word, file_words, report_words, thread_words,
+};
+use crate::task::{Exploration, Form, Job};
 use crate::version::VERSION;
 use clap::error::ErrorKind;
 use clap::{Arg, ArgAction, ArgMatches, Command, Error, value_parser};
 use std::alloc::{AllocError, Global};
 
-const ONTO_SCRIPT: &str = "OUT is SCRIPT's own file: the trace would overwrite the script";
+const ONTO_SCRIPT: &str = "OUT is SCRIPT's own file: the script would be overwritten";
 
 /// The most turns that an actor of a live run makes.
 const MOST_TURNS: u32 = 1000000;
@@ -26,6 +28,24 @@ const DEFAULT_WORKERS: u32 = 2;
 /// The most sessions after which a server ends.
 const MOST_SESSIONS: u32 = 1000000;
 
+/// The most runs of a search.
+const MOST_RUNS: u32 = 1000000;
+
+/// The number of runs without the option.
+const DEFAULT_RUNS: u32 = 10000;
+
+/// The number after the greatest that a run can have.
+const MOST_NUMBERS: u64 = 4294967296;
+
+/// The seed without the option.
+const DEFAULT_SEED: u64 = 1;
+
+/// The most events of a run of a search, and their number without the option.
+const MOST_EVENTS: u32 = 65536;
+
+/// The most threads that make the runs of a search.
+const MOST_THREADS: u32 = 64;
+
 /// The place of an option that help lists after all others, as it lists `--help`.
 const LAST: usize = 999;
 
@@ -37,10 +57,19 @@ const BEYOND_PORTS: &str = "invalid value for '--port <P>': it must be 1 to 6553
 
 const BEYOND_SESSIONS: &str = "invalid value for '--clients <C>': it must be 1 to 1000000";
 
+const BEYOND_RUNS: &str = "invalid value for '--runs <N>': it must be 1 to 1000000";
+
+const BEYOND_NUMBERS: &str =
+    "invalid value for '--first <I>': with --runs <N>, I + N must be at most 4294967296";
+
+const BEYOND_EVENTS: &str = "invalid value for '--events <M>': it must be 1 to 65536";
+
+const BEYOND_THREADS: &str = "invalid value for '--threads <T>': it must be 1 to 64";
+
 // Returns an operand as clap's argument.
-fn arg_of<'a>(alloc: Global, operand: &'a Operand) -> Arg<'a> {
+fn arg_of<'a>(alloc: Global, operand: &'a Operand) -> Result<Arg<'a>, AllocError> {
     let arg = Arg::new(alloc, operand.name).help(operand.help);
-    match operand.shape {
+    Ok(match operand.shape {
         Shape::File => arg.required(true).action(ArgAction::Set),
         Shape::Files => arg.required(true).num_args(1..).action(ArgAction::Append),
         Shape::Named(word) => arg.long(word).action(ArgAction::Set),
@@ -65,7 +94,16 @@ fn arg_of<'a>(alloc: Global, operand: &'a Operand) -> Arg<'a> {
             .hide_possible_values(word != "kind")
             .action(ArgAction::Append),
         Shape::Flag(word) => arg.long(word).action(ArgAction::SetTrue),
-    }
+        Shape::Seed => arg
+            .long("seed")
+            .value_parser(value_parser!(u64))
+            .action(ArgAction::Set),
+        Shape::Until => arg
+            .long("until")
+            .value_name("P = V")
+            .action(ArgAction::Set)
+            .conflicts_with("KIND")?,
+    })
 }
 
 // Returns a subcommand as clap's command.
@@ -74,7 +112,7 @@ fn command_of<'a>(alloc: Global, word: &'a Word) -> Result<Command<'a>, AllocErr
         .about(word.about)
         .after_help(word.after);
     for operand in word.operands {
-        command = command.arg(arg_of(alloc, operand))?;
+        command = command.arg(arg_of(alloc, operand)?)?;
     }
     Ok(command)
 }
@@ -108,14 +146,18 @@ fn number_of(matches: &ArgMatches<'_>, name: &str) -> Option<u32> {
     matches.get_one::<u32>(name)
 }
 
+// Returns the subcommand of this name, if it is among these.
+fn verb_among(words: &[Word], name: &str) -> Option<Verb> {
+    let word = words.iter().find(|word| word.name == name)?;
+    Some(word.verb)
+}
+
 // Returns the subcommand of this name.
 fn verb_of(name: &str) -> Verb {
-    for word in WORDS {
-        if word.name == name {
-            return word.verb;
-        }
-    }
-    Verb::Walk
+    verb_among(file_words(), name)
+        .or(verb_among(report_words(), name))
+        .or(verb_among(thread_words(), name))
+        .unwrap_or(Verb::Walk)
 }
 
 // Returns the job of `explain`.
@@ -128,19 +170,74 @@ fn explain_of<'a>(alloc: Global, matches: &ArgMatches<'a>) -> Result<Job<'a>, Al
     })
 }
 
+// Returns the job of `explore`.
+fn explore_of<'a>(alloc: Global, matches: &ArgMatches<'a>) -> Result<Job<'a>, AllocError> {
+    Ok(Job::Explore(Exploration {
+        script: text_of(matches, "SCRIPT"),
+        kinds: texts_of(alloc, matches, "KIND")?,
+        until: matches.get_str("UNTIL"),
+        runs: number_of(matches, "N").unwrap_or(DEFAULT_RUNS),
+        seed: matches.get_one::<u64>("S").unwrap_or(DEFAULT_SEED),
+        first: number_of(matches, "I").unwrap_or(0),
+        events: number_of(matches, "M").unwrap_or(MOST_EVENTS),
+        out: matches.get_str("OUT"),
+        unlocked: matches.get_flag("unlocked"),
+        sound_device: matches.get_flag("sound-device"),
+        threads: number_of(matches, "T"),
+        json: matches.get_flag("json"),
+    }))
+}
+
+// Returns the job of `live`.
+fn live_of<'a>(matches: &ArgMatches<'a>) -> Job<'a> {
+    Job::Live {
+        script: text_of(matches, "SCRIPT"),
+        turns: number_of(matches, "N").unwrap_or(DEFAULT_TURNS),
+        kernel: number_of(matches, "Q").unwrap_or(DEFAULT_WORKERS),
+        out: matches.get_str("OUT"),
+    }
+}
+
+// Returns the job of `serve`.
+fn serve_of<'a>(matches: &ArgMatches<'a>) -> Job<'a> {
+    Job::Serve {
+        script: text_of(matches, "SCRIPT"),
+        port: matches.get_one::<u16>("P").unwrap_or(0),
+        turns: number_of(matches, "N").unwrap_or(DEFAULT_TURNS),
+        kernel: number_of(matches, "Q").unwrap_or(DEFAULT_WORKERS),
+        clients: number_of(matches, "C"),
+    }
+}
+
+// Returns the job of a subcommand that reports on a run.
+fn report_of<'a>(verb: Verb, matches: &ArgMatches<'a>) -> Job<'a> {
+    let run = text_of(matches, "RUN");
+    let from = number_of(matches, "M");
+    let to = number_of(matches, "N");
+    match verb {
+        Verb::Timeline => Job::Timeline {
+            run,
+            out: text_of(matches, "OUT"),
+            from,
+            to,
+        },
+        _ => Job::Log {
+            run,
+            from: from.unwrap_or(0),
+            to,
+        },
+    }
+}
+
 // Returns the job that the words after a subcommand describe.
 fn job_of<'a>(alloc: Global, verb: Verb, matches: &ArgMatches<'a>) -> Result<Job<'a>, AllocError> {
     let script = text_of(matches, "SCRIPT");
-    let run = text_of(matches, "RUN");
+    let trace = text_of(matches, "TRACE");
     let out = text_of(matches, "OUT");
-    let from = number_of(matches, "M");
-    let to = number_of(matches, "N");
-    let turns = to.unwrap_or(DEFAULT_TURNS);
-    let kernel = number_of(matches, "Q").unwrap_or(DEFAULT_WORKERS);
     Ok(match verb {
         Verb::Walk => Job::Walk(script),
         Verb::Check => Job::Check(script),
-        Verb::Replay => Job::Replay(text_of(matches, "TRACE")),
+        Verb::Replay => Job::Replay(trace),
         Verb::Trace => Job::Trace {
             script,
             out,
@@ -152,36 +249,30 @@ fn job_of<'a>(alloc: Global, verb: Verb, matches: &ArgMatches<'a>) -> Result<Job
             trace: text_of(matches, "IN"),
             out,
         },
-        Verb::Log => Job::Log {
-            run,
-            from: from.unwrap_or(0),
-            to,
-        },
+        Verb::Schedule => Job::Schedule { script, trace, out },
+        Verb::Log | Verb::Timeline => report_of(verb, matches),
         Verb::Explain => explain_of(alloc, matches)?,
-        Verb::Timeline => Job::Timeline { run, out, from, to },
-        Verb::Live => Job::Live {
-            script,
-            turns,
-            kernel,
-            out: matches.get_str("OUT"),
-        },
-        Verb::Serve => Job::Serve {
-            script,
-            port: matches.get_one::<u16>("P").unwrap_or(0),
-            turns,
-            kernel,
-            clients: number_of(matches, "C"),
-        },
+        Verb::Explore => explore_of(alloc, matches)?,
+        Verb::Live => live_of(matches),
+        Verb::Serve => serve_of(matches),
     })
 }
 
-// Returns whether a trace would be written to the path of its script.
+// Returns whether a file would be written to the path of the script that it is made from.
 fn loses_script(job: &Job<'_>) -> bool
     ensures { IsTrue result ↔ LosesScript job.now }
 {
     match job {
         Job::Trace { script, out, .. }
         | Job::Migrate { script, out, .. }
+        | Job::Schedule { script, out, .. }
+        | Job::Explore(
+            Exploration {
+                script,
+                out: Some(out),
+                ..
+            },
+        )
         | Job::Live {
             script,
             out: Some(out),
@@ -193,6 +284,7 @@ fn loses_script(job: &Job<'_>) -> bool
         | Job::Check(_)
         | Job::Explain { .. }
         | Job::Timeline { .. }
+        | Job::Explore(Exploration { out: None, .. })
         | Job::Live { out: None, .. }
         | Job::Serve { .. } => false,
     }
@@ -224,6 +316,32 @@ fn clients_out_of_range(port: u16, clients: Option<u32>) -> Option<&'static str>
     }
 }
 
+// Returns the range of the number of a search that is out of its range, as text.
+fn runs_out_of_range(runs: u32, first: u32, events: u32) -> Option<&'static str>
+    ensures { IfNone result (AreRuns runs first events) }
+{
+    if runs < 1 || runs > MOST_RUNS {
+        return Some(BEYOND_RUNS);
+    }
+    if first as u64 + runs as u64 > MOST_NUMBERS {
+        return Some(BEYOND_NUMBERS);
+    }
+    if events < 1 || events > MOST_EVENTS {
+        return Some(BEYOND_EVENTS);
+    }
+    None
+}
+
+// Returns the range of the number of threads, as text, if it is out of it.
+fn threads_out_of_range(threads: Option<u32>) -> Option<&'static str>
+    ensures { IfNone result (AreThreads threads) }
+{
+    match threads {
+        Some(count) if count < 1 || count > MOST_THREADS => Some(BEYOND_THREADS),
+        _ => None,
+    }
+}
+
 // Returns the range of the number of a job that is out of its range, as text.
 fn out_of_range(job: &Job<'_>) -> Option<&'static str>
     ensures { IfNone result (IsInRange job.now) }
@@ -240,6 +358,12 @@ fn out_of_range(job: &Job<'_>) -> Option<&'static str>
             Some(text) => Some(text),
             None => run_out_of_range(*turns, *kernel),
         },
+        Job::Explore(search) => {
+            match runs_out_of_range(search.runs, search.first, search.events) {
+                Some(text) => Some(text),
+                None => threads_out_of_range(search.threads),
+            }
+        }
         _ => None,
     }
 }
@@ -252,6 +376,18 @@ fn with<'a>(
     command.subcommand(word?)
 }
 
+// Returns the program with more subcommands.
+fn with_all<'a>(
+    alloc: Global,
+    mut command: Command<'a>,
+    words: &'a [Word],
+) -> Result<Command<'a>, AllocError> {
+    for word in words {
+        command = with(command, command_of(alloc, word))?;
+    }
+    Ok(command)
+}
+
 // Returns the option that prints the version.
 fn version_option<'a>(alloc: Global) -> Arg<'a> {
     Arg::new(alloc, "version")
@@ -262,19 +398,22 @@ fn version_option<'a>(alloc: Global) -> Arg<'a> {
         .action(ArgAction::Version)
 }
 
-// Returns the program with all its subcommands.
-fn program<'a>(alloc: Global) -> Result<Command<'a>, AllocError> {
-    let mut command = Command::new(alloc, "uringwalk")
+// Returns the program without its subcommands.
+fn bare_program<'a>(alloc: Global) -> Result<Command<'a>, AllocError> {
+    Command::new(alloc, "uringwalk")
         .version(VERSION)
         .disable_version_flag(true)
         .about("A reversible debugger for io_uring programs")
         .after_help(OPTIONS)
         .subcommand_required(true)
-        .arg(version_option(alloc))?;
-    for word in WORDS {
-        command = with(command, command_of(alloc, word))?;
-    }
-    Ok(command)
+        .arg(version_option(alloc))
+}
+
+// Returns the program with all its subcommands.
+fn program<'a>(alloc: Global) -> Result<Command<'a>, AllocError> {
+    let command = with_all(alloc, bare_program(alloc)?, file_words())?;
+    let command = with_all(alloc, command, report_words())?;
+    with_all(alloc, command, thread_words())
 }
 
 // Returns the job that the words describe, whatever its files and numbers are.
@@ -317,7 +456,7 @@ fn accepted<'a>(
     }
 }
 
-/// Returns the job that the words of the program describe. Wrong words, help, the version, a trace
+/// Returns the job that the words of the program describe. Wrong words, help, the version, a file
 /// onto its script, and a number out of its range are errors with their text.
 pub fn job<'a>(alloc: Global, words: &'a [&'a str]) -> Result<Job<'a>, Error>
     ensures keeps_script { IfOk result (λ j. LosesScript j → ⊥) }

@@ -53,8 +53,8 @@ impl Ending {
     }
 }
 
-// Returns the first kind of each name.
-fn kinds_of(alloc: Global, words: &[&str]) -> Result<Vec<Kind>, AllocError> {
+/// Returns the first kind of each name.
+pub(crate) fn kinds_of(alloc: Global, words: &[&str]) -> Result<Vec<Kind>, AllocError> {
     let mut kinds = Vec::new(alloc);
     for word in words {
         if let Some(kind) = Kind::of_word(*word) {

@@ -8,25 +8,31 @@ ghost use Rattle.uringwalk.specs.Files.{fault_as};
 mod checking;
 mod drawing;
 mod explaining;
+mod exploring;
 mod input;
 mod living;
 mod logging;
 mod output;
+mod progress;
 mod reporting;
+mod scheduling;
 mod serving;
 
 use checking::check_file;
 use clap::error::ErrorKind;
 use debug_server::{
-    Fault, Form, Job, RunFault, ServeFault, Traced, job, migrate_trace, replay, trace_eager,
-    trace_script, walk,
+    Exploration, Fault, Form, Job, RunFault, ServeFault, Traced, job, migrate_trace, replay,
+    trace_eager, trace_script, walk,
 };
 use drawing::draw_file;
 use explaining::explain_files;
+use exploring::explore_file;
 use living::live_file;
 use logging::log_file;
 use run_log::EventRange;
+use scheduling::schedule_file;
 use serving::serve_file;
+use std::io::IsTerminal;
 use std::net::{Net, TcpListener, TcpStream};
 use std::process::ExitCode;
 use std::rt::Files;
@@ -48,8 +54,7 @@ const TRACE_AND_ONE: u64 = 16777229;
 const WHOLE_TRACE_AND_ONE: u64 = 287966118;
 
 /// The message if OUT is another path of the script's file.
-const ONTO_SCRIPT: &str =
-    "error: OUT leads to SCRIPT's own file: the trace would overwrite the script";
+const ONTO_SCRIPT: &str = "error: OUT leads to SCRIPT's own file: the script would be overwritten";
 
 /// The kind of file that a session reads.
 #[derive(Clone, Copy)]
@@ -88,7 +93,7 @@ fn answer_over(
     Ok(())
 }
 
-// Writes a trace to its file, and prints how many events it has.
+// Writes a run to its file, and prints how many events it has.
 fn keep(rt: &(impl Files + Print + AllocGlobal), out: &str, trace: &Traced) -> Result<(), Fault> {
     write_file(rt, out, &trace.bytes).map_err(file_fault)?;
     match println!(rt; "events {}", trace.events) {
@@ -133,7 +138,7 @@ fn done(ended: Result<(), Fault>) -> Result<ExitCode, Fault> {
     }
 }
 
-// Runs a subcommand, and returns the exit status.
+// Runs a subcommand, and returns the exit status. Progress is printed only on a terminal.
 fn run<
     R: Files
         + Input
@@ -145,7 +150,7 @@ fn run<
         + Clock
         + Net<Listener = TcpListener, Stream = TcpStream>
         + Sync,
->(rt: &R, job: Job<'_>) -> Result<ExitCode, Fault>
+>(rt: &R, job: Job<'_>, is_terminal: bool) -> Result<ExitCode, Fault>
     requires { IsInRange job }
 {
     match job {
@@ -160,6 +165,8 @@ fn run<
             json,
         } => explain_files(rt, &runs, &kinds, &allowed, json),
         Job::Timeline { run, out, from, to } => draw_file(rt, run, out, Window { from, to }),
+        Job::Explore(search) => explore_file(rt, &search, is_terminal),
+        Job::Schedule { script, trace, out } => schedule_file(rt, script, trace, out),
         Job::Live {
             script,
             turns,
@@ -183,13 +190,23 @@ fn run<
     }
 }
 
-// Returns whether a trace would overwrite its script, although their paths differ.
+// Returns whether a file would overwrite the script that it is made from, although their paths
+// differ.
 fn loses_script(rt: &(impl Files + AllocGlobal), job: &Job<'_>) -> Result<bool, Fault> {
     match job {
-        Job::Trace { script, out, .. } | Job::Migrate { script, out, .. } => {
+        Job::Trace { script, out, .. }
+        | Job::Migrate { script, out, .. }
+        | Job::Schedule { script, out, .. } => {
             lead_to_one_file(rt, *script, *out).map_err(file_fault)
         }
-        Job::Live {
+        Job::Explore(
+            Exploration {
+                script,
+                out: Some(out),
+                ..
+            },
+        )
+        | Job::Live {
             script,
             out: Some(out),
             ..
@@ -200,6 +217,7 @@ fn loses_script(rt: &(impl Files + AllocGlobal), job: &Job<'_>) -> Result<bool, 
         | Job::Check(_)
         | Job::Explain { .. }
         | Job::Timeline { .. }
+        | Job::Explore(Exploration { out: None, .. })
         | Job::Live { out: None, .. }
         | Job::Serve { .. } => Ok(false),
     }
@@ -237,11 +255,11 @@ fn carry_out<
         + Clock
         + Net<Listener = TcpListener, Stream = TcpStream>
         + Sync,
->(rt: &R, job: Job<'_>) -> ExitCode
+>(rt: &R, job: Job<'_>, is_terminal: bool) -> ExitCode
     requires { IsInRange job }
 {
     match loses_script(rt, &job) {
-        Ok(false) => match run(rt, job) {
+        Ok(false) => match run(rt, job, is_terminal) {
             Ok(status) => status,
             Err(fault) => fail(rt, 1, &fault),
         },
@@ -262,9 +280,9 @@ fn read_words<
         + Clock
         + Net<Listener = TcpListener, Stream = TcpStream>
         + Sync,
->(rt: &R, words: &[&str]) -> ExitCode {
+>(rt: &R, words: &[&str], is_terminal: bool) -> ExitCode {
     match job(rt.alloc(), words) {
-        Ok(job) => carry_out(rt, job),
+        Ok(job) => carry_out(rt, job, is_terminal),
         Err(error) if error.kind() == ErrorKind::OutOfMemory => fail_for_memory(rt),
         Err(error) if error.kind() == ErrorKind::DisplayVersion => print_version(rt, &error),
         Err(error) => fail(rt, 2, &error),
@@ -283,13 +301,13 @@ fn read_texts<
         + Clock
         + Net<Listener = TcpListener, Stream = TcpStream>
         + Sync,
->(rt: &R, words: &[String]) -> ExitCode {
+>(rt: &R, words: &[String], is_terminal: bool) -> ExitCode {
     match words
         .iter()
         .map(|word| word.as_str())
         .collect::<Vec<&str>>(rt.alloc())
     {
-        Ok(texts) => read_words(rt, &texts),
+        Ok(texts) => read_words(rt, &texts, is_terminal),
         Err(_) => fail_for_memory(rt),
     }
 }
@@ -303,7 +321,7 @@ fn main(rt: HostRuntime) -> io::Result<ExitCode> {
         Err(_) => return Ok(fail(&rt, 2, &"error: a word is not UTF-8 text")),
     };
     match words {
-        Ok(words) => Ok(read_texts(&rt, &words)),
+        Ok(words) => Ok(read_texts(&rt, &words, rt.stderr().is_terminal())),
         Err(_) => Ok(fail_for_memory(&rt)),
     }
 }

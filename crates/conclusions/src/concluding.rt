@@ -1,0 +1,162 @@
+//! The conclusion of a search.
+ghost use Rattle.std.specs.Prelude.{◌≡◌, ◌≤◌, length, IfOk, IfSome, is_some, None, false};
+ghost use Rattle.rewriting.specs.Rewriting.{IsRewritten};
+ghost use Rattle.exploring.specs.RandomRuns.{CanRun};
+ghost use Rattle.conclusions.specs.Conclusions.{IsHit, IsScriptOf, IsFoundScript};
+
+use crate::fault::ConclusionFault;
+use crate::shown::{Shown, sentence_of, shown_by};
+use explorations::{Discovery, Exploration, SeenKind, json_of, text_of};
+use exploring::{RandomRuns, Totals};
+use finding_kinds::Kind;
+use machine::Setup;
+use rewriting::{RewriteFault, with_schedule};
+use shrinking::Shrunk;
+use std::alloc::{AllocError, Global};
+
+/// What a search prints and writes.
+#[derive(Drop)]
+pub struct Conclusion {
+    pub printed: String,
+    /// The script with the schedule that was found, if a file was asked for.
+    pub script: Option<Vec<u8>>,
+    pub is_found: bool,
+}
+
+/// How a search reports.
+#[derive(Clone, Copy)]
+pub struct Reporting<'a> {
+    /// The text of the script.
+    pub script: &'a [u8],
+    /// The place and its value, if they are looked for.
+    pub until: Option<&'a str>,
+    /// The file to write.
+    pub out: Option<&'a str>,
+    pub json: bool,
+}
+
+// Returns the kinds that runs showed, and how many runs showed each.
+fn seen_by(alloc: Global, kinds: &[Kind], totals: &Totals) -> Result<Vec<SeenKind>, AllocError> {
+    let mut seen = Vec::new(alloc);
+    for (kind, runs) in kinds.iter().zip(totals.kinds.iter()) {
+        if *runs > 0 {
+            seen.push(SeenKind {
+                kind: kind.word(),
+                runs: *runs,
+            })?;
+        }
+    }
+    Ok(seen)
+}
+
+// Returns the result as text or as JSON.
+fn printed(alloc: Global, exploration: &Exploration<'_>, json: bool) -> Result<String, AllocError> {
+    if json {
+        json_of(alloc, exploration)
+    } else {
+        text_of(alloc, exploration)
+    }
+}
+
+// Returns the report of a run that was found.
+fn report_of(
+    runs: &RandomRuns<'_>,
+    reporting: Reporting<'_>,
+    totals: &Totals,
+    number: u32,
+    shown: &Shown,
+) -> Result<String, AllocError>
+    requires runs { CanRun runs.now }
+    requires most { length shown.now.shrunk.events.items ≤ 65536 }
+{
+    let seen = seen_by(runs.alloc, runs.kinds, totals)?;
+    let text = sentence_of(runs.alloc, runs.setup, &shown.shrunk)?;
+    let sighting = shown.shrunk.sighting;
+    let kind = sighting.finding.map(|finding| finding.kind.word());
+    let discovery = Discovery {
+        kind,
+        name: kind.or(reporting.until).unwrap_or(""),
+        moment: sighting.moment,
+        run: number,
+        text: text.as_str(),
+        length: shown.length,
+        schedule: &shown.shrunk.events,
+        out: reporting.out,
+    };
+    let exploration = Exploration {
+        seed: runs.seed,
+        runs: totals.runs,
+        events: totals.events,
+        seen: &seen,
+        discovery: Some(discovery),
+    };
+    printed(runs.alloc, &exploration, reporting.json)
+}
+
+// Returns the report of a search that found nothing.
+fn nothing(
+    runs: &RandomRuns<'_>,
+    reporting: Reporting<'_>,
+    totals: &Totals,
+) -> Result<Conclusion, ConclusionFault>
+    ensures { IfOk result (λ c. (c.is_found ≡ false) × (c.script ≡ None)) }
+{
+    let seen = seen_by(runs.alloc, runs.kinds, totals)?;
+    let exploration = Exploration {
+        seed: runs.seed,
+        runs: totals.runs,
+        events: totals.events,
+        seen: &seen,
+        discovery: None,
+    };
+    Ok(Conclusion {
+        printed: printed(runs.alloc, &exploration, reporting.json)?,
+        script: None,
+        is_found: false,
+    })
+}
+
+// Returns the script with a schedule, if a file is asked for.
+fn script_with(
+    alloc: Global,
+    reporting: Reporting<'_>,
+    setup: &Setup,
+    shrunk: &Shrunk,
+) -> Result<Option<Vec<u8>>, RewriteFault>
+    requires text { IsScriptOf reporting.script.now setup.now }
+    requires most { length shrunk.now.events.items ≤ 65536 }
+    ensures { IfOk result (λ script. IfSome script (λ made.
+        IsRewritten reporting.entry.script.now setup.now shrunk.now.events.items made.items)) }
+{
+    match reporting.out {
+        Some(_) => Ok(Some(with_schedule(alloc, reporting.script, &shrunk.events)?)),
+        None => Ok(None),
+    }
+}
+
+/// Returns the report of a search, and the script with the schedule that was found.
+pub fn conclude(
+    runs: &RandomRuns<'_>,
+    reporting: Reporting<'_>,
+    found: Option<u32>,
+    totals: &Totals,
+) -> Result<Conclusion, ConclusionFault>
+    requires runs { CanRun runs.now }
+    requires hit { IsHit runs.now found }
+    requires text { IsScriptOf reporting.script.now runs.now.setup.now }
+    ensures found { IfOk result (λ c. c.is_found ≡ is_some found) }
+    ensures script { IfOk result (λ c. IfSome c.script (λ made. IsFoundScript
+        reporting.entry.script.now runs.now.setup.now runs.now.symptom made.items)) }
+{
+    let Some(number) = found else {
+        return nothing(runs, reporting, totals);
+    };
+    let Some(shown) = shown_by(runs, number)? else {
+        return nothing(runs, reporting, totals);
+    };
+    Ok(Conclusion {
+        printed: report_of(runs, reporting, totals, number, &shown)?,
+        script: script_with(runs.alloc, reporting, runs.setup, &shown.shrunk)?,
+        is_found: true,
+    })
+}

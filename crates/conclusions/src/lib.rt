@@ -1,0 +1,12 @@
+//! Concludes a search of random runs: shrinks the run that was found, explains it, and puts its
+//! schedule into the script.
+#![tactic(auto)]
+
+mod concluding;
+mod fault;
+mod shown;
+mod sought;
+
+pub use concluding::{Conclusion, Reporting, conclude};
+pub use fault::ConclusionFault;
+pub use sought::symptom_of;

@@ -1,0 +1,202 @@
+//! The `explore` subcommand: searches random runs of a script.
+ghost use Rattle.std.specs.Prelude.{◌≡◌, ◌≤◌, None};
+ghost use Rattle.scenario.specs.Setups.{setup_refusal};
+ghost use Rattle.debug_server.specs.Jobs.{IsSearch, AreThreads};
+ghost use Rattle.exploring.specs.RandomRuns.{CanRun};
+ghost use Rattle.conclusions.specs.Conclusions.{IsScriptOf};
+
+use crate::explaining::kinds_of;
+use crate::output::{Output, write_text};
+use crate::progress::Progress;
+use crate::{SCRIPT_AND_ONE, fail, file_fault};
+use conclusions::{Conclusion, ConclusionFault, Reporting, conclude, symptom_of};
+use debug_server::{Exploration, Fault, KINDS, RunFault};
+use exploring::{RandomRuns, explore};
+use machine::Setup;
+use rewriting::RewriteFault;
+use sampling::{Program, SampleOptions};
+use script::{ScriptFault, read_script};
+use std::process::ExitCode;
+use std::rt::Files;
+use std::thread;
+use std::thread::Threads;
+use std::time::Clock;
+use symptoms::Symptom;
+use whole_files::{read_file, write_file};
+
+/// The exit status if the command line is wrong.
+const WORDS: u8 = 2;
+
+/// The exit status if something was found.
+const FOUND: u8 = 3;
+
+/// The most threads of a search.
+const MOST_THREADS: usize = 64;
+
+/// The most kinds that a search counts. There are fewer.
+const MOST_KINDS: usize = 64;
+
+/// The message if the script would be too long.
+const NO_ROOM: &str = "SCRIPT would have more than 8388608 bytes with the schedule that was found";
+
+const MEMORY: Fault = Fault::Run(RunFault::Memory);
+
+/// What a search is asked for.
+#[derive(Clone, Copy)]
+struct Task<'a> {
+    words: &'a Exploration<'a>,
+    /// The text of the script.
+    script: &'a [u8],
+    /// Whether standard error is a terminal, which shows progress.
+    is_terminal: bool,
+}
+
+// Reports that there is no such place, or that it can't have the value.
+fn refuse_until(rt: &impl Eprint, until: &str) -> ExitCode {
+    match eprintln!(rt;
+        "error: invalid value '{until}' for '--until <P = V>': no such place, or no such value of it"
+    ) {
+        Ok(()) | Err(_) => ExitCode::from(WORDS),
+    }
+}
+
+// Returns how many threads make the runs.
+fn thread_count(rt: &impl Threads, threads: Option<u32>) -> usize
+    requires { AreThreads threads }
+    ensures { (1 ≤ result) × (result ≤ 64) }
+{
+    match threads {
+        Some(count) => count as usize,
+        None => match thread::available_parallelism(rt) {
+            Ok(count) => count.get().min(MOST_THREADS),
+            Err(_) => 1,
+        },
+    }
+}
+
+// Searches, and returns what to print and to write.
+fn conclusion_of<R: Eprint + Threads + Clock + Sync>(
+    rt: &R,
+    task: Task<'_>,
+    runs: &RandomRuns<'_>,
+) -> Result<Conclusion, ConclusionFault>
+    requires words { IsSearch task.words.now }
+    requires runs { CanRun runs.now }
+    requires script { IsScriptOf task.script.now runs.now.setup.now }
+{
+    let words = task.words;
+    let mut lanes = runs.lanes(thread_count(rt, words.threads))?;
+    let mut progress = Progress::new(rt, task.is_terminal);
+    let report = explore(rt, runs, &mut lanes, words.first, words.runs, |count| {
+        progress.show(rt, count)
+    })?;
+    let reporting = Reporting {
+        script: task.script,
+        until: words.until,
+        out: words.out,
+        json: words.json,
+    };
+    conclude(runs, reporting, report.found, &report.totals)
+}
+
+// Writes the script with the schedule that was found to its file, and prints the report.
+fn present<R: Files + Print + AllocGlobal>(
+    rt: &R,
+    out: Option<&str>,
+    conclusion: Conclusion,
+) -> Result<ExitCode, Fault> {
+    let Conclusion {
+        printed,
+        script,
+        is_found,
+    } = conclusion;
+    if let (Some(out), Some(bytes)) = (out, &script) {
+        write_file(rt, out, bytes).map_err(file_fault)?;
+    }
+    write_text(&mut Output::new(rt), Ok(printed))?;
+    Ok(if is_found {
+        ExitCode::from(FOUND)
+    } else {
+        ExitCode::SUCCESS
+    })
+}
+
+// Searches for a symptom.
+fn explore_for<R: Files + Print + Eprint + AllocGlobal + Threads + Clock + Sync>(
+    rt: &R,
+    task: Task<'_>,
+    setup: &Setup,
+    symptom: Symptom<'_>,
+) -> Result<ExitCode, Fault>
+    requires words { IsSearch task.words.now }
+    requires starts { setup_refusal setup.now ≡ None }
+    requires script { IsScriptOf task.script.now setup.now }
+{
+    let words = task.words;
+    let (Ok(program), Ok(kinds)) = (Program::new(rt.alloc(), setup), kinds_of(rt.alloc(), KINDS))
+    else {
+        return Err(MEMORY);
+    };
+    let runs = RandomRuns {
+        alloc: rt.alloc(),
+        setup,
+        program: &program,
+        options: SampleOptions {
+            unlocked: words.unlocked,
+            sound_device: words.sound_device,
+            most: words.events,
+        },
+        seed: words.seed,
+        symptom,
+        kinds: &kinds[..kinds.len().min(MOST_KINDS)],
+    };
+    match conclusion_of(rt, task, &runs) {
+        Ok(conclusion) => present(rt, words.out, conclusion),
+        Err(ConclusionFault::Memory | ConclusionFault::Rewrite(RewriteFault::Memory)) => {
+            Err(MEMORY)
+        }
+        Err(ConclusionFault::Rewrite(_)) => Ok(fail(rt, 1, &NO_ROOM)),
+    }
+}
+
+// Searches the runs of a setup.
+fn explore_setup<R: Files + Print + Eprint + AllocGlobal + Threads + Clock + Sync>(
+    rt: &R,
+    task: Task<'_>,
+    setup: &Setup,
+) -> Result<ExitCode, Fault>
+    requires words { IsSearch task.words.now }
+    requires starts { setup_refusal setup.now ≡ None }
+    requires script { IsScriptOf task.script.now setup.now }
+{
+    let Ok(kinds) = kinds_of(rt.alloc(), &task.words.kinds) else {
+        return Err(MEMORY);
+    };
+    match symptom_of(rt.alloc(), setup, &kinds, task.words.until) {
+        Ok(Some(symptom)) => explore_for(rt, task, setup, symptom),
+        Ok(None) => Ok(refuse_until(rt, task.words.until.unwrap_or(""))),
+        Err(_) => Err(MEMORY),
+    }
+}
+
+/// Searches random runs of a script, prints what is found, and writes the script with its schedule.
+/// Progress is printed only on a terminal. Returns the exit status.
+pub fn explore_file<R: Files + Print + Eprint + AllocGlobal + Threads + Clock + Sync>(
+    rt: &R,
+    words: &Exploration<'_>,
+    is_terminal: bool,
+) -> Result<ExitCode, Fault>
+    requires { IsSearch words.now }
+{
+    let text = read_file(rt, words.script, SCRIPT_AND_ONE).map_err(file_fault)?;
+    let task = Task {
+        words,
+        script: &text,
+        is_terminal,
+    };
+    match read_script(rt.alloc(), &text) {
+        Ok(script) => explore_setup(rt, task, script.setup()),
+        Err(ScriptFault::Memory) => Err(MEMORY),
+        Err(fault) => Err(Fault::Run(RunFault::Script(fault))),
+    }
+}
