@@ -10,7 +10,6 @@ use exploring::{RandomRuns, Worker};
 use finding_kinds::Finding;
 use findings::search_run;
 use machine::{Event, Setup, State};
-use sampling::laws::repeatable;
 use sentences::{Run, sentence};
 use shrinking::{Shrunk, shrink};
 use std::alloc::{AllocError, Global};
@@ -52,6 +51,7 @@ fn sighting_of(runs: &RandomRuns<'_>, events: &[Event]) -> Result<Option<Sightin
 }
 
 /// Makes a run that shows the symptom again, and makes it short. The result is never None.
+#[tactic(auto, using(crate::proofs::Hits::has_sighting))]
 pub(crate) fn shown_by(runs: &RandomRuns<'_>, number: u32) -> Result<Option<Shown>, AllocError>
     requires runs { CanRun runs.now }
     requires shows { RunShows runs.now number }
@@ -59,7 +59,6 @@ pub(crate) fn shown_by(runs: &RandomRuns<'_>, number: u32) -> Result<Option<Show
     ensures shown { IfOk result (λ shown. IfSome shown (λ x. IsShown runs.now.setup.now
         runs.now.symptom x.shrunk.events.items x.shrunk.sighting.moment)) }
 {
-    repeatable();
     let events = events_of(runs, number)?;
     let Some(sighting) = sighting_of(runs, &events)? else {
         return Ok(None);
