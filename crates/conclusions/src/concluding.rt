@@ -1,5 +1,6 @@
 //! The conclusion of a search.
 ghost use Rattle.std.specs.Prelude.{◌≡◌, ◌≤◌, length, IfOk, IfSome, is_some, None, false};
+ghost use Rattle.scenario.specs.Setups.{setup_refusal};
 ghost use Rattle.rewriting.specs.Rewriting.{IsRewritten};
 ghost use Rattle.exploring.specs.RandomRuns.{CanRun};
 ghost use Rattle.conclusions.specs.Conclusions.{IsHit, IsScriptOf, IsFoundScript};
@@ -58,6 +59,22 @@ fn printed(alloc: Global, exploration: &Exploration<'_>, json: bool) -> Result<S
     }
 }
 
+// Returns the result of a search.
+fn exploration_of<'a>(
+    seed: u64,
+    totals: &Totals,
+    seen: &'a [SeenKind],
+    discovery: Option<Discovery<'a>>,
+) -> Exploration<'a> {
+    Exploration {
+        seed,
+        runs: totals.runs,
+        events: totals.events,
+        seen,
+        discovery,
+    }
+}
+
 // Returns the report of a run that was found.
 fn report_of(
     runs: &RandomRuns<'_>,
@@ -66,7 +83,7 @@ fn report_of(
     number: u32,
     shown: &Shown,
 ) -> Result<String, AllocError>
-    requires runs { CanRun runs.now }
+    requires starts { setup_refusal runs.now.setup.now ≡ None }
     requires most { length shown.now.shrunk.events.items ≤ 65536 }
 {
     let seen = seen_by(runs.alloc, runs.kinds, totals)?;
@@ -83,13 +100,7 @@ fn report_of(
         schedule: &shown.shrunk.events,
         out: reporting.out,
     };
-    let exploration = Exploration {
-        seed: runs.seed,
-        runs: totals.runs,
-        events: totals.events,
-        seen: &seen,
-        discovery: Some(discovery),
-    };
+    let exploration = exploration_of(runs.seed, totals, &seen, Some(discovery));
     printed(runs.alloc, &exploration, reporting.json)
 }
 
@@ -102,13 +113,7 @@ fn nothing(
     ensures { IfOk result (λ c. (c.is_found ≡ false) × (c.script ≡ None)) }
 {
     let seen = seen_by(runs.alloc, runs.kinds, totals)?;
-    let exploration = Exploration {
-        seed: runs.seed,
-        runs: totals.runs,
-        events: totals.events,
-        seen: &seen,
-        discovery: None,
-    };
+    let exploration = exploration_of(runs.seed, totals, &seen, None);
     Ok(Conclusion {
         printed: printed(runs.alloc, &exploration, reporting.json)?,
         script: None,
@@ -143,6 +148,7 @@ pub fn conclude(
     totals: &Totals,
 ) -> Result<Conclusion, ConclusionFault>
     requires runs { CanRun runs.now }
+    requires starts { setup_refusal runs.now.setup.now ≡ None }
     requires hit { IsHit runs.now found }
     requires text { IsScriptOf reporting.script.now runs.now.setup.now }
     ensures found { IfOk result (λ c. c.is_found ≡ is_some found) }

@@ -54,6 +54,7 @@ fn sighting_of(runs: &RandomRuns<'_>, events: &[Event]) -> Result<Option<Sightin
 #[tactic(auto, using(crate::proofs::Hits::has_sighting))]
 pub(crate) fn shown_by(runs: &RandomRuns<'_>, number: u32) -> Result<Option<Shown>, AllocError>
     requires runs { CanRun runs.now }
+    requires starts { setup_refusal runs.now.setup.now ≡ None }
     requires shows { RunShows runs.now number }
     ensures some { IfOk result (λ shown. IfNone shown ⊥) }
     ensures shown { IfOk result (λ shown. IfSome shown (λ x. IsShown runs.now.setup.now

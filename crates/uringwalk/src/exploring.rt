@@ -82,6 +82,7 @@ fn conclusion_of<R: Eprint + Threads + Clock + Sync>(
 ) -> Result<Conclusion, ConclusionFault>
     requires words { IsSearch task.words.now }
     requires runs { CanRun runs.now }
+    requires starts { setup_refusal runs.now.setup.now ≡ None }
     requires script { IsScriptOf task.script.now runs.now.setup.now }
 {
     let words = task.words;
