@@ -122,7 +122,6 @@ fn nothing(
 }
 
 // Returns the script with a schedule, if a file is asked for.
-#[tactic(auto, using(crate::proofs::Hits::of_text))]
 fn script_with(
     alloc: Global,
     reporting: Reporting<'_>,
