@@ -398,7 +398,7 @@ def kill(job, how):
             require(done.returncode == -9, f"at {number} it wasn't killed: {shown(done)}")
             require(is_left(files, job.old, before, whole, beginning), f"killed at {number}: files {sorted(files)}")
             number += 1
-        require(number > 3 and done.returncode == 0, f"it was killed {number - 1} times, and then {shown(done)}")
+        require(number > 3 and done.returncode == expected.status, f"it was killed {number - 1} times, and then {shown(done)}")
         return number, number - 1, ""
     return trial
 
@@ -422,6 +422,6 @@ def all_trials():
         for what in ("open", "lookup"):
             for how in ("eio", "enospc"):
                 yield f"{what} of {job.name}, {how}", fail_opens(job, what, how)
-    for job in (TRACE, TRACE_NEW, TRACE_1, MIGRATE, LIVE):
+    for job in (TRACE, TRACE_NEW, TRACE_1, MIGRATE, EXPLORE, SCHEDULE, LIVE):
         for how in ("kill", "torn"):
             yield f"{job.name}, {how}", kill(job, how)
