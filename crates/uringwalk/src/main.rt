@@ -8,7 +8,6 @@ ghost use Rattle.uringwalk.specs.Files.{fault_as};
 mod checking;
 mod drawing;
 mod explaining;
-mod exploring;
 mod input;
 mod living;
 mod logging;
@@ -16,6 +15,7 @@ mod output;
 mod progress;
 mod reporting;
 mod scheduling;
+mod searching;
 mod serving;
 
 use checking::check_file;
@@ -26,11 +26,11 @@ use debug_server::{
 };
 use drawing::draw_file;
 use explaining::explain_files;
-use exploring::explore_file;
 use living::live_file;
 use logging::log_file;
 use run_log::EventRange;
 use scheduling::schedule_file;
+use searching::explore_file;
 use serving::serve_file;
 use std::io::IsTerminal;
 use std::net::{Net, TcpListener, TcpStream};
