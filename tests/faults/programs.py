@@ -109,12 +109,14 @@ TRACE = Job("trace", ["trace", "script", "out"], out="out")
 TRACE_NEW = Job("trace into a new file", ["trace", "script", "out"], out="out", old=None)
 TRACE_1 = Job("trace of form 1", ["trace", "script", "out", "--form", "1"], out="out")
 MIGRATE = Job("migrate", ["migrate", "script", "events", "out"], out="out")
+EXPLORE = Job("explore", ["explore", "script", "--until", "pc 0 = 4", "--runs", "1", "--threads", "1", "--out", "out"], out="out")
+SCHEDULE = Job("schedule", ["schedule", "script", "whole", "out"], out="out")
 HELP = Job("help", ["walk", "--help"])
 WRONG_WORDS = Job("words that are refused", ["walk"])
 LIVE = Job("live", ["live", "script", "--turns", "6", "--kernel", "1", "--trace", "out"], out="out", given=LINES)
 LIVE_WIDE = Job("live of all opcodes", LIVE.words, "all_opcodes", "out", LINES)
 
-FIXED = (WALK, REPLAY, LOG, LOG_TRACE, TRACE, TRACE_NEW, TRACE_1, MIGRATE)
+FIXED = (WALK, REPLAY, LOG, LOG_TRACE, TRACE, TRACE_NEW, TRACE_1, MIGRATE, EXPLORE, SCHEDULE)
 # The same on a script with a request of each opcode.
 WIDE = tuple(Job(f"{job.name} of all opcodes", job.words, "all_opcodes", job.out, job.given)
              for job in (WALK, REPLAY, TRACE, TRACE_1, MIGRATE))
@@ -333,7 +335,7 @@ def fail_writes(job, what, how):
             number += 1
         require(number > 1 and expected.is_whole(done, files), f"{number - 1} failed, and then {shown(done)}")
         if how != "half":
-            is_output = what == "write" and not (job.out and how == "eintr")
+            is_output = what == "write" and (how != "eintr" or not job.out or job is EXPLORE)
             require((of_file > 0) == bool(job.out) and (of_output > 0) == is_output,
                     f"{of_file} of the file and {of_output} of the output failed")
         return number, number - 1, ""
@@ -342,7 +344,8 @@ def fail_writes(job, what, how):
 
 def fail_opens(job, what, how):
     """Fails each open, or each path lookup, in turn: it must be reported as a fault of a file. The two lookups that find out
-    whether OUT leads to SCRIPT's own file are an exception: a path that can't be followed leads to no file."""
+    whether OUT leads to SCRIPT's own file, and the two for TRACE's, are an exception: a path that can't be followed leads to
+    no file."""
     def trial(room):
         expected = Expected(job, room)
         number, faults = 1, 0
@@ -354,7 +357,7 @@ def fail_opens(job, what, how):
             right = whole or expected.is_cut(done, files, NO_FILE, False) and files == expected.before
             require(right, f"{what} {number}: {shown(done)}, files {sorted(files)}")
             number, faults = number + 1, faults + (not whole)
-        spared = 2 if what == "lookup" else 0
+        spared = (4 if job is SCHEDULE else 2) if what == "lookup" else 0
         require(faults == number - 1 - spared > 0 and expected.is_whole(done, files),
                 f"{faults} of {number - 1} were reported, and then {shown(done)}")
         return number, number - 1, ""
@@ -415,7 +418,7 @@ def all_trials():
         for what in ("sync", "rename") if job.out else ():
             for how in ("eio", "enospc"):
                 yield f"{what} of {job.name}, {how}", fail_writes(job, what, how)
-    for job in (TRACE, TRACE_NEW, TRACE_1, MIGRATE):
+    for job in (TRACE, TRACE_NEW, TRACE_1, MIGRATE, EXPLORE, SCHEDULE):
         for what in ("open", "lookup"):
             for how in ("eio", "enospc"):
                 yield f"{what} of {job.name}, {how}", fail_opens(job, what, how)
