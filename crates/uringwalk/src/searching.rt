@@ -41,7 +41,7 @@ const NO_PLACE: &str = "SCRIPT can't have the schedule that was found";
 
 const MEMORY: Fault = Fault::Run(RunFault::Memory);
 
-/// What a search is asked for.
+/// The options of a search, and its script.
 #[derive(Clone, Copy)]
 struct Task<'a> {
     words: &'a Exploration<'a>,
