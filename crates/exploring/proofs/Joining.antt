@@ -48,7 +48,7 @@ trials-append g n m (x ∷ xs) ys at t u = (t.0, t.1, trials-append g (n + 1) m 
 pub quiet_none : (g : ℕ → Outcome → Type 0) (a b : ℕ) (t : Totals) → a ≡ b → Counts t [] → IsQuiet g a b t
 quiet_none g a b t e c = record { outcomes = []; until = omega arith; trials = tt; totals = c }
 
--- One run more, which does not show what is looked for.
+-- One run more, which does not show what is searched for.
 pub quiet_more : (g : ℕ → Outcome → Type 0) (a n : ℕ) (t t' : Totals) (o : Outcome) → IsQuiet g a n t → Adds t o t' → g n o → o.shows ≡ false → IsQuiet g a (n + 1) t'
 quiet_more g a n t t' o q s given off = record {
   outcomes = q.outcomes ++ o ∷ [];

@@ -1,27 +1,27 @@
--- Runs in order of their numbers, up to the first that shows what is looked for.
+-- Runs in order of their numbers, up to the first that shows what is searched for.
 use Rattle.std.specs.Prelude.{◌≡◌, ℕ, ◌+◌, ◌<◌, ◌≤◌, ◌↔◌, ◌++◌, true, false, IsTrue, Option, Some, None, List, [], ◌∷◌, length}
 use Rattle.exploring.specs.declared.outcome.Outcome.{Outcome}
 use Rattle.exploring.specs.declared.outcome.Totals.{Totals}
 use Rattle.exploring.specs.Counting.{Counts}
 
--- An outcome is that of run `n`: it says whether the run shows what is looked for.
+-- An outcome is that of run `n`: it says whether the run shows what is searched for.
 pub record IsOutcome (shows : ℕ → Type 0) (gives : ℕ → Outcome → Type 0) (n : ℕ) (o : Outcome) : Type 0 where
   pub decides : IsTrue o.shows ↔ shows n
   pub given : gives n o
 
--- The runs from a number on have these outcomes, and none shows what is looked for.
+-- The runs from a number on have these outcomes, and none shows what is searched for.
 abbrev pub Trials : (ℕ → Outcome → Type 0) → ℕ → List Outcome → Type 0
 Trials gives n [] = Unit {0}
 Trials gives n (o ∷ os) = gives n o × (o.shows ≡ false) × Trials gives (n + 1) os
 
--- No run from `a` up to `b` shows what is looked for, and these are their totals.
+-- No run from `a` up to `b` shows what is searched for, and these are their totals.
 pub record IsQuiet (gives : ℕ → Outcome → Type 0) (a b : ℕ) (t : Totals) : Type 0 where
   pub outcomes : List Outcome
   pub until : a + length outcomes ≡ b
   pub trials : Trials gives a outcomes
   pub totals : Counts t outcomes
 
--- Run `n` shows what is looked for, and no run from `a` up to it does. The totals are of all these.
+-- Run `n` shows what is searched for, and no run from `a` up to it does. The totals are of all these.
 pub record IsFirst (gives : ℕ → Outcome → Type 0) (a n : ℕ) (t : Totals) : Type 0 where
   pub before : List Outcome
   pub last : Outcome

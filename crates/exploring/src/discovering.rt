@@ -27,9 +27,9 @@ pub struct Searched {
     pub totals: Totals,
 }
 
-/// Looks for the first of `count` runs from `first` on that shows the symptom, with a thread for
-/// each lane. The result is the same for any number of lanes. `worker` then has the run's events.
-/// After each round `progress` gets the number of runs so far.
+/// Searches `count` runs from `first` on for the first one that shows the symptom, and leaves its
+/// events in `worker`. Each lane has a thread, and the result doesn't depend on their number. Calls
+/// `progress` after each round with the number of runs so far.
 pub fn discover<R: Threads + Sync, F: FnMut(u64)>(
     rt: &R,
     runs: &RandomRuns<'_>,

@@ -1,19 +1,22 @@
-//! What is tried: runs that have numbers.
+//! Numbered runs, some of which show what is searched for.
 ghost use Rattle.std.specs.Prelude.{◌↔◌, ℕ, IsTrue, OnOk, IfOk};
 ghost use Rattle.exploring.specs.declared.outcome.Outcome.{Outcome};
 
 use crate::outcome::Outcome;
 use std::alloc::AllocError;
 
-/// Runs that have numbers, each of which can be repeated. Several threads share an experiment, and
-/// each makes its runs with a worker that only it uses.
+/// Numbered runs, each of which can be repeated. Threads share an experiment, and each has its own
+/// worker.
 pub trait Experiment: Sync {
     type Worker: Send + Drop;
 
+    // Whether the run of a number shows what is searched for.
     ghost shows: { Self → ℕ → Type 0 };
 
+    // What the run of a number shows.
     ghost gives: { Self → ℕ → Outcome → Type 0 };
 
+    // Whether a worker can make a run.
     ghost is_ready: { Self → Self.Worker → Type 0 };
 
     /// Makes the run of a number.

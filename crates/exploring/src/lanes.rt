@@ -28,7 +28,7 @@ impl<W> Lane<W> {
     }
 }
 
-/// Makes the runs from a number up to another, until one shows what is looked for.
+/// Makes the runs `from` to `until - 1` in order, up to the first that shows what is searched for.
 pub(crate) fn run_lane<E: Experiment>(
     experiment: &E,
     lane: &mut Lane<E::Worker>,

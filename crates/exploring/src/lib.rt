@@ -1,5 +1,5 @@
-//! The search behind `explore`: random runs are tried in order of their numbers, by several threads,
-//! until one shows what is looked for.
+//! The search of `explore`: several threads make numbered random runs of a program, and the first
+//! one that shows a symptom is found.
 #![tactic(auto)]
 
 mod discovering;

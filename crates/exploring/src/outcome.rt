@@ -6,7 +6,7 @@ ghost use Rattle.exploring.specs.Bounds.{IsBounded};
 /// What one run showed.
 #[derive(Clone, Copy, PartialEq, Eq)]
 pub struct Outcome {
-    /// Whether it showed what is looked for.
+    /// Whether it showed what is searched for.
     pub shows: bool,
     pub events: u32,
     /// The kinds of findings that it showed, one bit each.

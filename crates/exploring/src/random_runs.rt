@@ -64,7 +64,7 @@ impl Worker {
 impl RandomRuns<'_> {
     ghost use Rattle.exploring.specs.RandomRuns.{CanRun, HasEvents, IsRun, IsReady, CanUndo};
 
-    /// Returns so many lanes, whose workers have made no run.
+    /// Returns `count` lanes whose workers have made no run.
     pub fn lanes(&self, count: usize) -> Result<Vec<Lane<Worker>>, AllocError>
         requires { CanRun self.now }
         ensures len { IfOk result (λ lanes. vec_len lanes ≡ count) }
@@ -78,7 +78,7 @@ impl RandomRuns<'_> {
         Ok(lanes)
     }
 
-    /// Makes run `number`, and looks for the symptom. The worker then has the events.
+    /// Makes run `number`, and searches it for the symptom. Leaves the events in the worker.
     pub fn examine_run(&self, worker: &mut Worker, number: u32) -> Result<Examined, AllocError>
         requires { IsReady self.now worker.old }
         ensures ready { OnOk result (IsReady self.now worker.new) }
@@ -89,7 +89,7 @@ impl RandomRuns<'_> {
         self.look(worker)
     }
 
-    // Makes run `number`, and goes back to the start.
+    // Makes run `number`, and returns to the start.
     fn make(&self, worker: &mut Worker, number: u32) -> Result<(), AllocError>
         requires { IsReady self.now worker.old }
         ensures ready { OnOk result (IsReady self.now worker.new) }
@@ -108,7 +108,7 @@ impl RandomRuns<'_> {
         Ok(())
     }
 
-    // Looks for the symptom in the run that was made, and goes back to the start.
+    // Searches the run that was made for the symptom, and returns to the start.
     fn look(&self, worker: &mut Worker) -> Result<Examined, AllocError>
         requires ready { IsReady self.now worker.old }
         requires undo { CanUndo self.now worker.old }

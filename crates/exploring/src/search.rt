@@ -1,4 +1,4 @@
-//! The search for the first run that shows what is looked for.
+//! A search by several threads, in rounds.
 ghost use Rattle.std.specs.Prelude.{◌≡◌, ℕ, ◌+◌, ◌*◌, ◌<◌, ◌≤◌, ◌^◌, None, All, OnOk, IfOk, length, slice_index_or};
 ghost use Rattle.exploring.specs.declared.lanes.Lane.{Lane};
 ghost use Rattle.exploring.specs.Counting.{IsSum};
@@ -18,15 +18,15 @@ const PART: u64 = 64;
 /// What a search found.
 #[derive(Drop)]
 pub struct Report {
-    /// The first run that shows what is looked for.
+    /// The first run that shows what is searched for.
     pub found: Option<u32>,
     /// Totals over the runs up to it, or over all runs.
     pub totals: Totals,
 }
 
-/// Makes `count` runs from `first` on, until one shows what is looked for, with a thread for each
-/// worker. The report is the same for any number of workers. After each round `progress` gets the
-/// number of runs so far.
+/// Makes `count` runs from `first` on, up to the first that shows what is searched for. Each lane has
+/// a thread, and the report doesn't depend on their number. Calls `progress` after each round with
+/// the number of runs so far.
 pub fn explore<E: Experiment, R: Threads + Sync, F: FnMut(u64)>(
     rt: &R,
     experiment: &E,
@@ -138,7 +138,8 @@ fn run_lanes<E: Experiment, R: Threads + Sync>(
     requires few { length lanes.old ≤ 64 }
     requires order { from ≤ until }
     requires range { until ≤ 2 ^ 32 }
-    ensures { (i : ℕ) (d : Lane E.Worker) → i < length lanes.old → HasRun (E.is_ready experiment.now)
+    ensures { (i : ℕ) (d : Lane E.Worker) → i < length lanes.old
+        → HasRun (E.is_ready experiment.now)
         (IsOutcome (E.shows experiment.now) (E.gives experiment.now))
         (part_start from until i) (part_start from until (i + 1)) (slice_index_or lanes.new i d) }
 {

@@ -8,7 +8,6 @@ ghost use Rattle.uringwalk.specs.Files.{fault_as};
 mod checking;
 mod drawing;
 mod explaining;
-mod exploring;
 mod input;
 mod living;
 mod logging;
@@ -16,6 +15,7 @@ mod output;
 mod progress;
 mod reporting;
 mod scheduling;
+mod searching;
 mod serving;
 
 use checking::check_file;
@@ -26,11 +26,12 @@ use debug_server::{
 };
 use drawing::draw_file;
 use explaining::explain_files;
-use exploring::explore_file;
 use living::live_file;
 use logging::log_file;
 use run_log::EventRange;
 use scheduling::schedule_file;
+use script::{Key, Path, ScriptFault};
+use searching::explore_file;
 use serving::serve_file;
 use std::io::IsTerminal;
 use std::net::{Net, TcpListener, TcpStream};
@@ -55,6 +56,13 @@ const WHOLE_TRACE_AND_ONE: u64 = 287966118;
 
 /// The message if OUT is another path of the script's file.
 const ONTO_SCRIPT: &str = "error: OUT leads to SCRIPT's own file: the script would be overwritten";
+
+/// The fault of a script that is too long with another schedule.
+const TOO_LONG: Fault = Fault::Run(RunFault::Script(ScriptFault::Limit(Path {
+    key: Key::Document,
+    item: None,
+    inner: None,
+})));
 
 /// The kind of file that a session reads.
 #[derive(Clone, Copy)]

@@ -1,6 +1,6 @@
 //! The `schedule` subcommand: puts the events of a trace into a script.
 
-use crate::{SCRIPT_AND_ONE, WHOLE_TRACE_AND_ONE, done, fail, file_fault, keep};
+use crate::{SCRIPT_AND_ONE, TOO_LONG, WHOLE_TRACE_AND_ONE, done, fail, file_fault, keep};
 use debug_server::{Fault, RunFault, Traced};
 use rewriting::{RewriteFault, ScheduleFault, with_events_of};
 use std::process::ExitCode;
@@ -14,8 +14,6 @@ const WORDS: u8 = 2;
 const ONTO_TRACE: &str = "error: OUT leads to TRACE's own file: the trace would be overwritten";
 
 const OTHER_SETUP: &str = "TRACE is of another setup than SCRIPT";
-
-const TOO_LONG: &str = "SCRIPT has more than 8388608 bytes with the events of TRACE";
 
 const NO_PLACE: &str = "SCRIPT can't have the events of TRACE as its schedule";
 

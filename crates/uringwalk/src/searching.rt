@@ -8,7 +8,7 @@ ghost use Rattle.conclusions.specs.Conclusions.{IsScriptOf};
 use crate::explaining::kinds_of;
 use crate::output::{Output, write_text};
 use crate::progress::Progress;
-use crate::{SCRIPT_AND_ONE, fail, file_fault};
+use crate::{SCRIPT_AND_ONE, TOO_LONG, fail, file_fault};
 use conclusions::{Conclusion, ConclusionFault, Reporting, conclude, symptom_of};
 use debug_server::{Exploration, Fault, KINDS, RunFault};
 use exploring::{RandomRuns, explore};
@@ -36,12 +36,12 @@ const MOST_THREADS: usize = 64;
 /// The most kinds that a search counts. There are fewer.
 const MOST_KINDS: usize = 64;
 
-/// The message if the script would be too long.
-const NO_ROOM: &str = "SCRIPT would have more than 8388608 bytes with the schedule that was found";
+/// The message if the place of the schedule isn't found in the script.
+const NO_PLACE: &str = "SCRIPT can't have the schedule that was found";
 
 const MEMORY: Fault = Fault::Run(RunFault::Memory);
 
-/// What a search is asked for.
+/// The options of a search, and its script.
 #[derive(Clone, Copy)]
 struct Task<'a> {
     words: &'a Exploration<'a>,
@@ -156,7 +156,11 @@ fn explore_for<R: Files + Print + Eprint + AllocGlobal + Threads + Clock + Sync>
         Err(ConclusionFault::Memory | ConclusionFault::Rewrite(RewriteFault::Memory)) => {
             Err(MEMORY)
         }
-        Err(ConclusionFault::Rewrite(_)) => Ok(fail(rt, 1, &NO_ROOM)),
+        Err(ConclusionFault::Rewrite(RewriteFault::Script(fault))) => {
+            Err(Fault::Run(RunFault::Script(fault)))
+        }
+        Err(ConclusionFault::Rewrite(RewriteFault::TooLong)) => Err(TOO_LONG),
+        Err(ConclusionFault::Rewrite(RewriteFault::Place)) => Ok(fail(rt, 1, &NO_PLACE)),
     }
 }
 
