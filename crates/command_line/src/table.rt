@@ -86,10 +86,10 @@ const SCHEDULED: &str =
     "Writes the text of SCRIPT with the events of TRACE as its schedule. Creates or replaces OUT, which can't be SCRIPT's or TRACE's own file. Example:\n  uringwalk live examples/words_in_a_pipe/script.json --trace words.trace <examples/words_in_a_pipe/stdin\n  uringwalk schedule examples/words_in_a_pipe/script.json words.trace words.json";
 
 const LIVE: &str =
-    "Runs each thread of the script, the poller if there is one, and each kernel worker in a thread of its own, all at once; the script's schedule isn't used. Prints closed E, with E the number of events, and then reads commands as walk does. The next run may differ: --trace saves this one for replay. Example:\n  uringwalk live examples/words_in_a_pipe/script.json --trace words.trace <examples/words_in_a_pipe/stdin\n  echo where | uringwalk replay words.trace";
+    "Runs each thread of the script, the poller if there is one, and each kernel worker in its own thread, all at once; the script's schedule isn't used. Prints closed E, with E the number of events, and then reads commands as walk does. The next run may differ: --trace saves this one for replay. Example:\n  uringwalk live examples/words_in_a_pipe/script.json --trace words.trace <examples/words_in_a_pipe/stdin\n  echo where | uringwalk replay words.trace";
 
 const SERVE: &str =
-    "Runs the script's threads as live does, listens on 127.0.0.1, and prints port P. Each client has a session of its own, which begins without events: sync adds the events that the run has made so far. Up to 16 clients are served at once, and more wait. Example:\n  uringwalk serve examples/words_in_a_pipe/script.json --port 7001 --clients 1 &\n  sleep 1\n  printf 'sync\\nwhere\\nquit\\n' | nc 127.0.0.1 7001";
+    "Runs the script's threads as live does, listens on 127.0.0.1, and prints port P. Each client has its own session, which begins without events: sync adds the events that the run has made so far. Up to 16 clients are served at once, and more wait. Example:\n  uringwalk serve examples/words_in_a_pipe/script.json --port 7001 --clients 1 &\n  sleep 1\n  printf 'sync\\nwhere\\nquit\\n' | nc 127.0.0.1 7001";
 
 const SCRIPT: Operand = Operand {
     name: "SCRIPT",

@@ -5,7 +5,7 @@ use entries::Choice;
 use machine::Event;
 use std::alloc::{AllocError, Global};
 
-// Appends the events from one index to another, if the schedule has so many.
+// Appends the events from one index to another, if the schedule has that many.
 fn append(
     out: &mut Vec<Event>,
     events: &[Event],

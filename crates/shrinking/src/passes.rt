@@ -41,7 +41,7 @@ fn remove(
     attempt(alloc, goal, best, &candidate)
 }
 
-// Tries to remove so many events at a time, from the back.
+// Tries to remove this number of events at a time, from the back.
 fn remove_each(
     alloc: Global,
     goal: Goal<'_>,

@@ -102,7 +102,7 @@ fn stays_over(
     Ok(false)
 }
 
-// Returns what is kept of a run.
+// Returns what shrinking a run keeps.
 fn goal_of<'a>(
     alloc: Global,
     setup: &'a Setup,
