@@ -1,3 +1,4 @@
 pub mod First
 pub mod Taking
+pub mod ConclusiveFindings
 pub mod Sighted

@@ -7,18 +7,17 @@ use Rattle.places.specs.declared.value.Value.{Value}
 use Rattle.scenario.specs.declared.event.Event.{Event}
 use Rattle.scenario.specs.declared.setup.Setup.{Setup}
 use Rattle.finding_kinds.specs.declared.finding.Finding.{Finding}
-use Rattle.findings.specs.Findings.{IsFinding, IsReportOf}
 use Rattle.symptoms.specs.declared.symptom.Wanted.{Wanted}
 use Rattle.symptoms.specs.declared.symptom.Symptom.TheVariants as sought
-use Rattle.symptoms.specs.Symptoms.{is_wanted, IsWantedAt, IsFirst, seen_by, seen_at}
+use Rattle.symptoms.specs.Symptoms.{is_wanted, IsConclusive, AreConclusive, IsWantedAt, IsFirst, seen_by, seen_at}
 use Rattle.symptoms.specs.Reaching.{IsFirstUpTo}
 use Rattle.symptoms.proofs.First.{found_among, none_among, least_found}
 use Rattle.symptoms.proofs.Taking.{within_run}
 
-first_of : (s : Setup) (es : List Event) (wanted : Wanted) (fs : List Finding) → IsReportOf s es fs → (o : Option Finding) → find (λ f. is_wanted wanted f.kind) fs ≡ o → IsFirst s es (sought.Finding wanted) (option_map seen_by o)
+first_of : (s : Setup) (es : List Event) (wanted : Wanted) (fs : List Finding) → AreConclusive s es fs → (o : Option Finding) → find (λ f. is_wanted wanted f.kind) fs ≡ o → IsFirst s es (sought.Finding wanted) (option_map seen_by o)
 first_of s es wanted fs r None e = λ m shown. All-contains (λ g. is_wanted wanted g.kind ≡ true → ⊥) fs shown.0 (none_among (λ g. is_wanted wanted g.kind) fs e) (r.whole shown.0 shown.1.finding) shown.1.kind
 first_of s es wanted fs r (Some f) e =
-    let found = found_among (λ g. is_wanted wanted g.kind) (IsFinding s es) fs f e r.only in
+    let found = found_among (λ g. is_wanted wanted g.kind) (IsConclusive s es) fs f e r.only in
     let here : IsWantedAt s es wanted f.moment f = record { finding = found.0; kind = found.1; moment = refl } in
     record {
       shown = (f, here);
@@ -29,7 +28,7 @@ first_of s es wanted fs r (Some f) e =
     }
 
 -- The first wanted finding of a report is the first sighting.
-pub sighted_finding : (s : Setup) (es : List Event) (wanted : Wanted) (fs : List Finding) → IsReportOf s es fs → IsFirst s es (sought.Finding wanted) (option_map seen_by (find (λ f. is_wanted wanted f.kind) fs))
+pub sighted_finding : (s : Setup) (es : List Event) (wanted : Wanted) (fs : List Finding) → AreConclusive s es fs → IsFirst s es (sought.Finding wanted) (option_map seen_by (find (λ f. is_wanted wanted f.kind) fs))
 sighted_finding s es wanted fs r = first_of s es wanted fs r (find (λ f. is_wanted wanted f.kind) fs) refl
 
 -- So is the first moment at which the place takes the value, over the whole run.

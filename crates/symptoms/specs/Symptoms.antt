@@ -1,6 +1,6 @@
 -- What a run is searched for, and the moments at which it shows that.
-use Rattle.std.specs.Prelude.{◌≡◌, ◌≢◌, ℕ, ◌-◌, ◌≤◌, Bool, true, false, not, ◌&&◌, Option, Some, None, List, []}
-use Rattle.std.specs.List.{list_any}
+use Rattle.std.specs.Prelude.{◌≡◌, ◌≢◌, ℕ, ◌-◌, ◌≤◌, Bool, true, false, not, ◌&&◌, ◌||◌, Option, Some, None, List, [], filter, length}
+use Rattle.std.specs.List.{list_any, All, Contains}
 use Rattle.places.specs.declared.place.Place.{Place}
 use Rattle.places.specs.declared.value.Value.{Value}
 use Rattle.places.specs.View.{View}
@@ -8,14 +8,15 @@ use Rattle.scenario.specs.declared.event.Event.{Event}
 use Rattle.scenario.specs.declared.setup.Setup.{Setup}
 use Rattle.machine.specs.Whole.{view}
 use Rattle.machine.specs.Runs.{moment as machine_at}
+use Rattle.quiescence.specs.Over.{IsOver}
 use Rattle.finding_kinds.specs.declared.finding.Finding.{Finding}
 use Rattle.finding_kinds.specs.declared.kind.Kind.{Kind}
-use Rattle.finding_kinds.specs.declared.kind.Kind.TheVariants.{Ended}
+use Rattle.finding_kinds.specs.declared.kind.Kind.TheVariants.{Ended, Lasting, Left}
 use Rattle.finding_kinds.specs.declared.kind.EndedKind.TheVariants.{Failed, Short}
 use Rattle.finding_kinds.specs.contracts.kind.KindPartialEq.TheImpl as compared
 use Rattle.finding_kinds.specs.Kinds.{is_fault}
 use Rattle.finding_kinds.specs.Orders.{have_one_name}
-use Rattle.findings.specs.Findings.{IsFinding, IsReportOf}
+use Rattle.findings.specs.Findings.{IsFinding, Rises}
 use Rattle.symptoms.specs.declared.symptom.Wanted.{Wanted}
 use Rattle.symptoms.specs.declared.symptom.Wanted.TheVariants.{Faults, Kinds, Exactly}
 use Rattle.symptoms.specs.declared.symptom.Symptom.{Symptom}
@@ -41,9 +42,25 @@ is_wanted Faults kind = is_fault kind && not (is_of_device kind)
 is_wanted (Kinds names) kind = is_among names.now kind
 is_wanted (Exactly one) kind = (compared.ghosts).eq one kind
 
+-- Whether findings of a kind are about the end of a run: what lasts to it, or is left then.
+abbrev pub is_of_end : Kind → Bool
+is_of_end (Lasting kind) = true
+is_of_end (Left kind) = true
+is_of_end kind = false
+
+-- A finding of a run is conclusive. One about the end is, if the run is over then. If it isn't, the
+-- run is cut off: it could continue, and its last moment is no end.
+pub record IsConclusive (s : Setup) (es : List Event) (f : Finding) : Type 0 where
+  pub finding : IsFinding s es f
+  pub over : is_of_end f.kind ≡ true → IsOver (machine_at s es (length es))
+
+-- The findings that are conclusive, given whether the run is over at its end.
+abbrev pub conclusive : Bool → List Finding → List Finding
+conclusive over fs = filter (λ (f : Finding). over || not (is_of_end f.kind)) fs
+
 -- A wanted finding of a run, at moment m.
 pub record IsWantedAt (s : Setup) (es : List Event) (wanted : Wanted) (m : ℕ) (f : Finding) : Type 0 where
-  pub finding : IsFinding s es f
+  pub finding : IsConclusive s es f
   pub kind : is_wanted wanted f.kind ≡ true
   pub moment : f.moment ≡ m
 
@@ -83,9 +100,15 @@ abbrev pub IsFirst : Setup → List Event → Symptom → Option Sighting → Ty
 IsFirst s es wanted (Some x) = IsSighting s es wanted x
 IsFirst s es wanted None = (m : ℕ) → Shows s es wanted m → ⊥
 
--- The findings that a search for a symptom makes: all of the run, unless a place is looked at.
+-- Exactly the conclusive findings of a run, each once, in order.
+pub record AreConclusive (s : Setup) (es : List Event) (fs : List Finding) : Type 0 where
+  pub only : All (IsConclusive s es) fs
+  pub whole : (f : Finding) → IsConclusive s es f → Contains fs f
+  pub order : Rises fs
+
+-- The findings that a search for a symptom makes: the conclusive ones, unless a place is looked at.
 abbrev pub IsSearched : Setup → List Event → Symptom → List Finding → Type 0
-IsSearched s es (sought.Finding wanted) fs = IsReportOf s es fs
+IsSearched s es (sought.Finding wanted) fs = AreConclusive s es fs
 IsSearched s es (sought.Reaches p v) fs = fs ≡ []
 
 -- The sighting of a finding.

@@ -2,11 +2,11 @@
 ghost use Rattle.std.specs.Prelude.{◌≡◌, ◌≤◌, length, find, option_map, IfOk, OnOk, IfErr};
 ghost use Rattle.machine.specs.Runs.{start, Accepts};
 ghost use Rattle.runs.specs.Moments.{IsAt};
-ghost use Rattle.findings.specs.Findings.{IsReportOf};
 ghost use Rattle.findings.specs.Searching.{Halted};
 ghost use Rattle.symptoms.specs.declared.symptom.Symptom.TheVariants.{Finding as OfFinding, Reaches};
-ghost use Rattle.symptoms.specs.Symptoms.{is_wanted, seen_by, seen_at, IsFirst, IsSearched};
+ghost use Rattle.symptoms.specs.Symptoms.{is_wanted, seen_by, seen_at, AreConclusive, IsFirst, IsSearched};
 
+use crate::conclusive::conclusive_findings;
 use crate::reaching::first_taken;
 use crate::symptom::{Sighting, Symptom, Wanted};
 use finding_kinds::Finding;
@@ -21,7 +21,7 @@ use std::alloc::{AllocError, Global};
 pub struct Examined {
     /// The first sighting of the symptom, if there is one.
     pub sighting: Option<Sighting>,
-    /// All findings of the run, in order. Empty if the symptom is a value of a place.
+    /// The conclusive findings of the run, in order. Empty if the symptom is a value of a place.
     pub findings: Vec<Finding>,
 }
 
@@ -60,7 +60,8 @@ fn first_wanted(findings: &[Finding], wanted: &Wanted<'_>) -> Option<Finding>
         .copied()
 }
 
-// Steps the events, and returns their findings. The history that only sentences need isn't kept.
+// Steps the events, and returns their conclusive findings. The history that only sentences need
+// isn't kept.
 fn findings_of(
     alloc: Global,
     state: &mut State,
@@ -71,15 +72,15 @@ fn findings_of(
     requires most { length events.now ≤ 1048576 }
     ensures runs { OnOk result (Accepts (start setup.now) events.now) }
     ensures at { OnOk result (IsAt setup.now events.now (length events.now) state.new) }
-    ensures ok { IfOk result (λ found. IsReportOf setup.now events.now found.items) }
+    ensures ok { IfOk result (λ found. AreConclusive setup.now events.now found.items) }
     ensures err { IfErr result (Halted setup.now events.now) }
 {
     let Ok(mut search) = Search::without_history(alloc, setup, state) else {
         return Err(Ended::Memory);
     };
     drive(state, setup, events, &mut search)?;
-    match search.finish(setup, events, state) {
-        Ok(found) => Ok(found.findings),
+    match conclusive_findings(search, setup, events, state) {
+        Ok(findings) => Ok(findings),
         Err(_) => Err(Ended::Memory),
     }
 }

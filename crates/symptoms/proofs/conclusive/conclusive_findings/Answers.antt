@@ -1,0 +1,5 @@
+use Rattle.findings.proofs.Followed.{few_threads}
+use Rattle.symptoms.proofs.conclusive.conclusive_findings.Goals as goal
+
+pub ends_over-requires : goal.ends_over-requires
+ends_over-requires c = few_threads _ _ c.args.state.now _ _ _ _ _ _ c.requires.seen c.requires.at
