@@ -31,8 +31,9 @@ TRIES, NO_PORT = 5, b"fault net\n"
 class Job:
     """Words of the program, which run in their own folder with the files that they name."""
 
-    def __init__(self, name, words, over="one_nop", out=None, given=b"", old=OLD):
+    def __init__(self, name, words, over="one_nop", out=None, given=b"", old=OLD, each=False):
         self.name, self.words, self.over, self.out, self.given, self.old = name, words, over, out, given, old
+        self.each = each  # whether each allocation fails in turn, however many there are
         self.serves = words[0] in ("walk", "replay") and given != b""
 
     def run(self, room, what, how, number):
@@ -109,7 +110,10 @@ TRACE = Job("trace", ["trace", "script", "out"], out="out")
 TRACE_NEW = Job("trace into a new file", ["trace", "script", "out"], out="out", old=None)
 TRACE_1 = Job("trace of form 1", ["trace", "script", "out", "--form", "1"], out="out")
 MIGRATE = Job("migrate", ["migrate", "script", "events", "out"], out="out")
-EXPLORE = Job("explore", ["explore", "script", "--until", "pc 0 = 4", "--runs", "1", "--threads", "1", "--out", "out"], out="out")
+EXPLORE = Job("explore", ["explore", "script", "--until", "pc 0 = 4", "--runs", "1", "--threads", "1", "--out", "out"], out="out", each=True)
+EXPLORE_NEW = Job("explore into a new file", ["explore", "script", "--kind", "not-durable", "--runs", "1", "--threads", "1", "--out", "out"],
+                  "written_page", "out", old=None, each=True)
+EXPLORE_JSON = Job("explore as JSON", ["explore", "script", "--runs", "2", "--threads", "1", "--json"], each=True)
 SCHEDULE = Job("schedule", ["schedule", "script", "whole", "out"], out="out")
 HELP = Job("help", ["walk", "--help"])
 WRONG_WORDS = Job("words that are refused", ["walk"])
@@ -131,7 +135,7 @@ def fail_allocations(job):
         expected = Expected(job, room)
         _, _, _, count = job.run(room, "allocation", "one", 0)
         require(count > 0, "it allocates nothing")
-        numbers, failed, reports = numbers_of(count), 0, {MEMORY: 0, NO_MEMORY: 0}
+        numbers, failed, reports = range(1, count + 1) if job.each else numbers_of(count), 0, {MEMORY: 0, NO_MEMORY: 0}
         for how in ("one", "all"):
             in_session = False
             for number in numbers:
@@ -404,7 +408,7 @@ def kill(job, how):
 
 
 def all_trials():
-    for job in FIXED + WIDE + (HELP, WRONG_WORDS):
+    for job in FIXED + WIDE + (EXPLORE_NEW, EXPLORE_JSON, HELP, WRONG_WORDS):
         yield f"allocations of {job.name}", fail_allocations(job)
     for job in (LIVE, LIVE_WIDE):
         yield f"first allocations of {job.name}", fail_first_allocations(job)
