@@ -10,7 +10,7 @@ use Rattle.finding_kinds.specs.declared.kind.Kind.{Kind}
 use Rattle.finding_kinds.specs.Orders.{have_one_name}
 use Rattle.sampling.specs.Samples.{IsSample}
 use Rattle.symptoms.specs.declared.symptom.Sighting.{Sighting}
-use Rattle.symptoms.specs.Symptoms.{Shows, IsFirst, IsSearched}
+use Rattle.symptoms.specs.Symptoms.{Shows, IsFirst, AreConclusive}
 use Rattle.exploring.specs.declared.outcome.Outcome.{Outcome}
 use Rattle.exploring.specs.declared.random_runs.RandomRuns.{RandomRuns}
 use Rattle.exploring.specs.declared.random_runs.Worker.{Worker}
@@ -23,12 +23,11 @@ HasEvents r n es = IsSample r.setup.now r.options r.seed n es
 abbrev pub RunShows : RandomRuns → ℕ → Type 0
 RunShows r n = (es : List Event) × HasEvents r n es × (m : ℕ) × Shows r.setup.now es r.symptom m
 
--- The events of run `n`, its first sighting of the symptom, and the findings that the search for the
--- symptom makes.
+-- The events of run `n`, its first sighting of the symptom, and its conclusive findings.
 pub record IsRun (r : RandomRuns) (n : ℕ) (es : List Event) (x : Option Sighting) (fs : List Finding) : Type 0 where
   pub events : HasEvents r n es
   pub sighting : IsFirst r.setup.now es r.symptom x
-  pub findings : IsSearched r.setup.now es r.symptom fs
+  pub findings : AreConclusive r.setup.now es fs
 
 -- Whether some finding has the name of kind `k` of a list.
 abbrev pub has_kind : List Finding → Kind → Bool
@@ -41,7 +40,7 @@ is_shown kinds fs k = option_map_or (has_kind fs) (slice_get kinds k) false
 abbrev pub SaysKinds : List Kind → List Finding → ℕ → Type 0
 SaysKinds kinds fs bits = (k : ℕ) → k < 64 → bit_at bits k ≡ (if is_shown kinds fs k then 1 else 0)
 
--- An outcome of run `n`: how many events it has, and of which kinds it has findings.
+-- An outcome of run `n`: how many events it has, and of which kinds it has conclusive findings.
 pub record RunGives (r : RandomRuns) (n : ℕ) (o : Outcome) : Type 0 where
   pub event_list : List Event
   pub sighting : Option Sighting

@@ -2,7 +2,7 @@
 ghost use Rattle.std.specs.Prelude.{◌≡◌, ◌≢◌, ◌<◌, ◌≤◌, ℕ, length, vec_len, All, OnOk, IfOk, if◌then◌else◌};
 ghost use Rattle.std.specs.Int.{bit_at};
 ghost use Rattle.machine.specs.Runs.{start};
-ghost use Rattle.symptoms.specs.Symptoms.{IsFirst, IsSearched};
+ghost use Rattle.symptoms.specs.Symptoms.{IsFirst, AreConclusive};
 ghost use Rattle.exploring.specs.RandomRuns.{SaysKinds, has_kind};
 
 use crate::experiment::Experiment;
@@ -117,8 +117,8 @@ impl RandomRuns<'_> {
         ensures events { worker.new.sample.events.items ≡ worker.old.sample.events.items }
         ensures sighting { IfOk result (λ examined. IsFirst self.now.setup.now
             worker.old.sample.events.items self.now.symptom examined.sighting) }
-        ensures findings { IfOk result (λ examined. IsSearched self.now.setup.now
-            worker.old.sample.events.items self.now.symptom examined.findings.items) }
+        ensures findings { IfOk result (λ examined. AreConclusive self.now.setup.now
+            worker.old.sample.events.items examined.findings.items) }
     {
         let examined = match examine(
             self.alloc,

@@ -1,5 +1,5 @@
 -- The conclusive findings among those of a report.
-use Rattle.std.proofs.Common.{◌≡◌, Bool, true, false, List, [], ◌∷◌, length, refl, sym, ◌∙◌}
+use Rattle.std.proofs.Common.{◌≡◌, Bool, true, false, List, [], ◌∷◌, length, refl, sym, subst}
 use Rattle.std.specs.Prelude.{not, ◌||◌, filter, cond}
 use Rattle.std.specs.List.{All, Contains}
 use Rattle.std.proofs.lemmas.List.Elements.{All-nil, All-cons, All-weaker, All-contains, All-filter, filter_passes, Contains-push, Contains-append_left, Contains-append_right}
@@ -9,6 +9,7 @@ use Rattle.scenario.specs.declared.setup.Setup.{Setup}
 use Rattle.machine.specs.declared.whole.Machine.{Machine}
 use Rattle.machine.specs.Runs.{moment as machine_at}
 use Rattle.quiescence.specs.Over.{IsOver, SaysOver}
+use Rattle.runs.specs.Moments.{IsAt}
 use Rattle.finding_kinds.specs.declared.finding.Finding.{Finding}
 use Rattle.finding_kinds.specs.Orders.{order_of}
 use Rattle.findings.specs.Findings.{IsFinding, IsReportOf}
@@ -47,7 +48,7 @@ over_passes false true m says h = absurd (says (h refl))
 over_passes false false m says h = refl
 
 -- The findings of a report that are kept are the conclusive ones.
-pub conclusive_of : (s : Setup) (es : List Event) (over : Bool) (fs : List Finding) → SaysOver over (machine_at s es (length es)) → IsReportOf s es fs → AreConclusive s es (conclusive over fs)
+conclusive_of : (s : Setup) (es : List Event) (over : Bool) (fs : List Finding) → SaysOver over (machine_at s es (length es)) → IsReportOf s es fs → AreConclusive s es (conclusive over fs)
 conclusive_of s es over fs says r =
     let p : Finding → Bool = λ f. over || not (is_of_end f.kind) in
     let last = machine_at s es (length es) in
@@ -59,3 +60,7 @@ conclusive_of s es over fs says r =
       whole = λ f c. kept p fs f (r.whole f c.finding) (over_passes over (is_of_end f.kind) last says c.over);
       order = IsStrictlySortedBy-filter order_of p fs r.order;
     }
+
+-- The same, at the end of a run.
+pub conclusive_at : (s : Setup) (es : List Event) (over : Bool) (m : Machine) (fs gs : List Finding) → IsAt s es (length es) m → SaysOver over m → IsReportOf s es fs → gs ≡ conclusive over fs → AreConclusive s es gs
+conclusive_at s es over m fs gs at says r same = subst (AreConclusive s es) (sym same) (conclusive_of s es over fs (subst (SaysOver over) at.here says) r)

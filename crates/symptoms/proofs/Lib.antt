@@ -2,3 +2,4 @@ pub mod First
 pub mod Taking
 pub mod ConclusiveFindings
 pub mod Sighted
+pub mod Halting

@@ -13,9 +13,9 @@ use Rattle.scenario.specs.declared.setup.Setup.{Setup}
 use Rattle.machine.specs.declared.whole.Machine.{Machine}
 use Rattle.machine.specs.Whole.{view}
 use Rattle.machine.specs.Runs.{start, run, moment as machine_at}
-use Rattle.runs.specs.Moments.{IsAt}
+use Rattle.runs.specs.Moments.{IsAfter}
 use Rattle.symptoms.specs.Symptoms.{Took, TakesAt}
-use Rattle.symptoms.specs.Reaching.{first_of, IsFirstUpTo}
+use Rattle.symptoms.specs.Reaching.{first_of, IsFirstUpTo, HasLooked}
 
 -- ---- one event
 
@@ -45,22 +45,13 @@ took_named old new cs p v false x h same = λ t. let no = same.1 t.here in cc
 
 -- ---- more events
 
-took_at : (s : Setup) (es : List Event) (i : ℕ) (p : Place) (v : Value) (m n : Machine) → IsAt s es i m → IsAt s es (i + 1) n → Took (view m) (view n) p v → TakesAt s es p v (i + 1)
-took_at s es i p v m n before after t =
-    let back : i + 1 - 1 ≡ i = omega arith in
-    subst (λ (k : ℕ). Took (view (machine_at s es k)) (view (machine_at s es (i + 1))) p v) (sym back)
-    (subst (λ (x : Machine). Took (view x) (view (machine_at s es (i + 1))) p v) before.here (subst (λ (x : Machine). Took (view m) (view x) p v) after.here t))
-
-takes_at : (s : Setup) (es : List Event) (i : ℕ) (p : Place) (v : Value) (m n : Machine) → IsAt s es i m → IsAt s es (i + 1) n → TakesAt s es p v (i + 1) → Took (view m) (view n) p v
-takes_at s es i p v m n before after t =
-    let back : i + 1 - 1 ≡ i = omega arith in
-    subst (λ (x : Machine). Took (view m) (view x) p v) (sym after.here)
-    (subst (λ (x : Machine). Took (view x) (view (machine_at s es (i + 1))) p v) (sym before.here) (subst (λ (k : ℕ). Took (view (machine_at s es k)) (view (machine_at s es (i + 1))) p v) back t))
-
 -- Event i leads to moment i + 1.
-pub said_at : (s : Setup) (es : List Event) (i : ℕ) (p : Place) (v : Value) (m n : Machine) (b : Bool) → IsAt s es i m → IsAt s es (i + 1) n → MatchBool b (Took (view m) (view n) p v) (Took (view m) (view n) p v → ⊥) → MatchBool b (TakesAt s es p v (i + 1)) (TakesAt s es p v (i + 1) → ⊥)
-said_at s es i p v m n true before after h = took_at s es i p v m n before after h
-said_at s es i p v m n false before after h = λ t. h (takes_at s es i p v m n before after t)
+said_at : (s : Setup) (es : List Event) (i : ℕ) (p : Place) (v : Value) (n : Machine) (b : Bool) → n ≡ machine_at s es (i + 1) → MatchBool b (Took (view (machine_at s es i)) (view n) p v) (Took (view (machine_at s es i)) (view n) p v → ⊥) → MatchBool b (TakesAt s es p v (i + 1)) (TakesAt s es p v (i + 1) → ⊥)
+said_at s es i p v n b here h =
+    let back : i ≡ i + 1 - 1 = omega arith in
+    let P : ℕ → Type 0 = λ k. MatchBool b (Took (view (machine_at s es k)) (view (machine_at s es (i + 1))) p v) (Took (view (machine_at s es k)) (view (machine_at s es (i + 1))) p v → ⊥) in
+    let Q : Machine → Type 0 = λ x. MatchBool b (Took (view (machine_at s es i)) (view x) p v) (Took (view (machine_at s es i)) (view x) p v → ⊥) in
+    subst P back (subst Q here h)
 
 none_more : (T : ℕ → Type 0) (i : ℕ) → ((m : ℕ) → m ≤ i → T m → ⊥) → (T (i + 1) → ⊥) → (m : ℕ) → m ≤ i + 1 → T m → ⊥
 none_more T i none next m le t =
@@ -71,16 +62,25 @@ least_next T i none m t =
     elim (cases_order m (i + 1)) [ inl same ↦ omega arith | inr o ↦ elim o [ inl under ↦ absurd (none m (omega arith) t) | inr over ↦ omega (arith, over) ] ]
 
 -- The first moment so far, after one more event.
-pub first_more : (s : Setup) (es : List Event) (i : ℕ) (p : Place) (v : Value) (o : Option ℕ) (b : Bool) → IsFirstUpTo s es i p v o → MatchBool b (TakesAt s es p v (i + 1)) (TakesAt s es p v (i + 1) → ⊥) → IsFirstUpTo s es (i + 1) p v (first_of o b (i + 1))
+first_more : (s : Setup) (es : List Event) (i : ℕ) (p : Place) (v : Value) (o : Option ℕ) (b : Bool) → IsFirstUpTo s es i p v o → MatchBool b (TakesAt s es p v (i + 1)) (TakesAt s es p v (i + 1) → ⊥) → IsFirstUpTo s es (i + 1) p v (first_of o b (i + 1))
 first_more s es i p v (Some k) b h t = h
 first_more s es i p v None true h t = (t, least_next (TakesAt s es p v) i h)
 first_more s es i p v None false h t = none_more (TakesAt s es p v) i h t
 
+pub looked_more : (s : Setup) (es : List Event) (i : ℕ) (e : Event) (past : List Change) (n : Machine) (p : Place) (v : Value) (o new : Option ℕ) (b : Bool) → IsAfter s es i e past n → ((old : View) → Exact old (view n) past → MatchBool b (Took old (view n) p v) (Took old (view n) p v → ⊥)) → HasLooked s es i p v o → new ≡ first_of o b (i + 1) → HasLooked s es (i + 1) p v new
+looked_more s es i e past n p v o new b a said h same = record {
+  most = h.most;
+  first = subst (IsFirstUpTo s es (i + 1) p v) (sym same) (first_more s es i p v o b h.first (said_at s es i p v n b a.at.here (said (view (machine_at s es i)) a.exact)));
+}
+
 -- ---- the start and the end of a run
 
 -- At the start no place has taken a value.
-pub first_none : (s : Setup) (es : List Event) (p : Place) (v : Value) → IsFirstUpTo s es 0 p v None
+first_none : (s : Setup) (es : List Event) (p : Place) (v : Value) → IsFirstUpTo s es 0 p v None
 first_none s es p v = λ m le t. let none : m - 1 ≡ m = omega (arith, le) in t.before (ap (λ (k : ℕ). view (machine_at s es k) p) none ∙ t.here)
+
+pub looked_none : (s : Setup) (es : List Event) (p : Place) (v : Value) → length es ≤ 1048576 → HasLooked s es 0 p v None
+looked_none s es p v most = record { most = most; first = first_none s es p v }
 
 -- From the end on nothing changes, so a place takes a value at a moment of the run, if at all.
 pub within_run : (s : Setup) (es : List Event) (p : Place) (v : Value) → ((m : ℕ) → m ≤ length es → TakesAt s es p v m → ⊥) → (m : ℕ) → TakesAt s es p v m → ⊥

@@ -1,5 +1,5 @@
 -- What a run is searched for, and the moments at which it shows that.
-use Rattle.std.specs.Prelude.{◌≡◌, ◌≢◌, ℕ, ◌-◌, ◌≤◌, Bool, true, false, not, ◌&&◌, ◌||◌, Option, Some, None, List, [], filter, length}
+use Rattle.std.specs.Prelude.{◌≡◌, ◌≢◌, ℕ, ◌-◌, ◌≤◌, Bool, true, false, not, ◌&&◌, ◌||◌, Option, Some, None, List, filter, length}
 use Rattle.std.specs.List.{list_any, All, Contains}
 use Rattle.places.specs.declared.place.Place.{Place}
 use Rattle.places.specs.declared.value.Value.{Value}
@@ -105,11 +105,6 @@ pub record AreConclusive (s : Setup) (es : List Event) (fs : List Finding) : Typ
   pub only : All (IsConclusive s es) fs
   pub whole : (f : Finding) → IsConclusive s es f → Contains fs f
   pub order : Rises fs
-
--- The findings that a search for a symptom makes: the conclusive ones, unless a place is looked at.
-abbrev pub IsSearched : Setup → List Event → Symptom → List Finding → Type 0
-IsSearched s es (sought.Finding wanted) fs = AreConclusive s es fs
-IsSearched s es (sought.Reaches p v) fs = fs ≡ []
 
 -- The sighting of a finding.
 abbrev pub seen_by : Finding → Sighting

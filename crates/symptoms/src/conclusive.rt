@@ -6,7 +6,7 @@ ghost use Rattle.findings.specs.Searching.{HasSearched};
 ghost use Rattle.symptoms.specs.Symptoms.{is_of_end, conclusive, AreConclusive};
 
 use finding_kinds::{Finding, Kind};
-use findings::Search;
+use findings::{Found, Search};
 use machine::{Event, Setup, State};
 use quiescence::is_over;
 use std::alloc::AllocError;
@@ -51,7 +51,7 @@ pub(crate) fn conclusive_findings(
     ensures { IfOk result (λ found. AreConclusive setup.now events.now found.items) }
 {
     let is_over = ends_over(setup, state)?;
-    let mut findings = search.finish(setup, events, state)?.findings;
+    let Found { mut findings, .. } = search.finish(setup, events, state)?;
     keep_conclusive(&mut findings, is_over);
     Ok(findings)
 }

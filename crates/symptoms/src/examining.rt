@@ -1,27 +1,30 @@
 //! Examines a run for a symptom.
-ghost use Rattle.std.specs.Prelude.{◌≡◌, ◌≤◌, length, find, option_map, IfOk, OnOk, IfErr};
+ghost use Rattle.std.specs.Prelude.{◌≡◌, ◌≤◌, length, find, option_map, IfOk, OnOk, IfErr, List};
+ghost use Rattle.scenario.specs.declared.event.Event.{Event};
+ghost use Rattle.scenario.specs.declared.setup.Setup.{Setup};
 ghost use Rattle.machine.specs.Runs.{start, Accepts};
 ghost use Rattle.runs.specs.Moments.{IsAt};
 ghost use Rattle.findings.specs.Searching.{Halted};
 ghost use Rattle.symptoms.specs.declared.symptom.Symptom.TheVariants.{Finding as OfFinding, Reaches};
-ghost use Rattle.symptoms.specs.Symptoms.{is_wanted, seen_by, seen_at, AreConclusive, IsFirst, IsSearched};
+ghost use Rattle.symptoms.specs.Symptoms.{is_wanted, seen_by, seen_at, AreConclusive, IsFirst};
 
 use crate::conclusive::conclusive_findings;
-use crate::reaching::first_taken;
+use crate::reaching::{Lookout, Sought};
 use crate::symptom::{Sighting, Symptom, Wanted};
 use finding_kinds::Finding;
 use findings::Search;
 use machine::{Event, Setup, State};
 use places::{Place, Value};
-use runs::{Ended, drive};
+use runs::{Ended, Pair, drive};
 use std::alloc::{AllocError, Global};
+use std::marker::Brand;
 
 /// What a run shows.
 #[derive(Drop)]
 pub struct Examined {
     /// The first sighting of the symptom, if there is one.
     pub sighting: Option<Sighting>,
-    /// The conclusive findings of the run, in order. Empty if the symptom is a value of a place.
+    /// The conclusive findings of the run, in order.
     pub findings: Vec<Finding>,
 }
 
@@ -101,7 +104,7 @@ fn examine_findings(
     ensures sighting { IfOk result
         (λ x. IsFirst setup.now events.now (OfFinding wanted.now) x.sighting) }
     ensures findings { IfOk result
-        (λ x. IsSearched setup.now events.now (OfFinding wanted.now) x.findings.items) }
+        (λ x. AreConclusive setup.now events.now x.findings.items) }
     ensures err { IfErr result (Halted setup.now events.now) }
 {
     let findings = findings_of(alloc, state, setup, events)?;
@@ -111,9 +114,18 @@ fn examine_findings(
     })
 }
 
+// Returns why a search ends early. Its observers stop only where an allocation fails.
+fn halted_as<E: Drop>(ended: Ended<E>) -> Ended<AllocError>
+    ensures { (s : Setup) (es : List Event) → Halted s es ended → Halted s es result }
+{
+    match ended {
+        Ended::Refused(index, refusal) => Ended::Refused(index, refusal),
+        Ended::Memory | Ended::Stopped(_) => Ended::Memory,
+    }
+}
+
 // Looks for the first moment at which the place takes the value.
-#[tactic(auto, using(crate::proofs::Sighted::sighted_place))]
-fn examine_place(
+fn examine_place_as<K: Sought>(
     alloc: Global,
     state: &mut State,
     setup: &Setup,
@@ -123,23 +135,38 @@ fn examine_place(
 ) -> Result<Examined, Ended<AllocError>>
     requires starts { state.old ≡ start setup.now }
     requires most { length events.now ≤ 1048576 }
+    requires place { place ≡ K.place }
+    requires value { value.now ≡ K.value }
     ensures runs { OnOk result (Accepts (start setup.now) events.now) }
     ensures at { OnOk result (IsAt setup.now events.now (length events.now) state.new) }
     ensures sighting { IfOk result
         (λ x. IsFirst setup.now events.now (Reaches place value.now) x.sighting) }
     ensures findings { IfOk result
-        (λ x. IsSearched setup.now events.now (Reaches place value.now) x.findings.items) }
+        (λ x. AreConclusive setup.now events.now x.findings.items) }
     ensures err { IfErr result (Halted setup.now events.now) }
 {
-    let reached = first_taken(state, setup, events, place, value)?;
-    Ok(Examined {
-        sighting: sighting_at(reached),
-        findings: Vec::new(alloc),
-    })
+    let Ok(search) = Search::without_history(alloc, setup, state) else {
+        return Err(Ended::Memory);
+    };
+    let mut observers: Pair<Search, Lookout<K>> = Pair {
+        first: search,
+        second: Lookout::new(place, *value),
+    };
+    if let Err(ended) = drive(state, setup, events, &mut observers) {
+        return Err(halted_as(ended));
+    }
+    let Pair { first, second } = observers;
+    match conclusive_findings(first, setup, events, state) {
+        Ok(findings) => Ok(Examined {
+            sighting: sighting_at(second.reached),
+            findings,
+        }),
+        Err(_) => Err(Ended::Memory),
+    }
 }
 
 /// Steps the events of a run from its start to its end, and returns the first sighting of the
-/// symptom. Fails if an event is refused or an allocation fails.
+/// symptom, with the findings. Fails if an event is refused or an allocation fails.
 pub fn examine(
     alloc: Global,
     state: &mut State,
@@ -154,13 +181,13 @@ pub fn examine(
     ensures sighting { IfOk result
         (λ x. IsFirst setup.now events.now symptom.now x.sighting) }
     ensures findings { IfOk result
-        (λ x. IsSearched setup.now events.now symptom.now x.findings.items) }
+        (λ x. AreConclusive setup.now events.now x.findings.items) }
     ensures err { IfErr result (Halted setup.now events.now) }
 {
     match symptom {
         Symptom::Finding(wanted) => examine_findings(alloc, state, setup, events, wanted),
         Symptom::Reaches(place, value) => {
-            examine_place(alloc, state, setup, events, *place, value)
+            examine_place_as::<Brand>(alloc, state, setup, events, *place, value)
         }
     }
 }

@@ -1,18 +1,45 @@
-//! The first moment at which a place takes a value.
-ghost use Rattle.std.specs.Prelude.{◌≡◌, ◌≤◌, ◌<◌, ◌+◌, ◌↔◌, IsTrue, Some, OnOk, IfOk, IfErr, length};
+//! Looks for the first moment at which a place takes a value, while a run is stepped.
+ghost use Rattle.std.specs.Prelude.{◌≡◌, ◌≤◌, ◌↔◌, IsTrue, Some, List, length};
 ghost use Rattle.std.specs.Bool.{MatchBool};
+ghost use Rattle.places.specs.declared.place.Place.{Place};
+ghost use Rattle.places.specs.declared.place.Place.TheVariants.{Clock};
+ghost use Rattle.places.specs.declared.value.Value.{Value};
+ghost use Rattle.places.specs.declared.value.Value.TheVariants.{Number};
 ghost use Rattle.places.specs.View.{View, Exact};
+ghost use Rattle.scenario.specs.declared.event.Event.{Event};
+ghost use Rattle.scenario.specs.declared.setup.Setup.{Setup};
 ghost use Rattle.machine.specs.Whole.{view};
-ghost use Rattle.machine.specs.Runs.{start, Accepts};
-ghost use Rattle.runs.specs.Moments.{IsAt};
-ghost use Rattle.findings.specs.Searching.{Halted};
-ghost use Rattle.symptoms.specs.Symptoms.{Took, TakesAt};
-ghost use Rattle.symptoms.specs.Reaching.{first_of, IsFirstUpTo};
+ghost use Rattle.symptoms.specs.Symptoms.{Took};
+ghost use Rattle.symptoms.specs.Reaching.{first_of, HasLooked};
 
-use machine::{Event, Refusal, Setup, State};
+use machine::State;
 use places::{Place, Record, Value};
-use runs::Ended;
-use std::alloc::AllocError;
+use runs::{Observed, Observer};
+use std::convert::Infallible;
+use std::marker::{Brand, PhantomData};
+
+/// The place and the value that are looked for, for proofs.
+pub trait Sought {
+    ghost place: { Place };
+
+    ghost value: { Value };
+}
+
+impl Sought for Brand {
+    ghost place = { Clock };
+
+    ghost value = { Number 0 };
+}
+
+/// An observer that looks for the first moment at which a place takes a value.
+#[derive(Drop)]
+pub(crate) struct Lookout<K> {
+    place: Place,
+    value: Value,
+    /// That moment, if it has come.
+    pub reached: Option<u32>,
+    proof: PhantomData<K>,
+}
 
 // Returns whether the event of a record brought the place to the value. `state` is the state after
 // that event.
@@ -36,35 +63,6 @@ fn has_value(state: &State, place: Place, value: &Value) -> bool
     }
 }
 
-// Steps the event at an index, and returns whether it brings the place to the value.
-fn step(
-    state: &mut State,
-    _setup: &Setup,
-    events: &[Event],
-    index: usize,
-    place: Place,
-    value: &Value,
-) -> Result<bool, Ended<AllocError>>
-    requires within { index < length events.now }
-    requires most { length events.now ≤ 1048576 }
-    requires at { IsAt _setup.now events.now index state.old }
-    ensures at { OnOk result (IsAt _setup.now events.now (index + 1) state.new) }
-    ensures taken { IfOk result (λ is_taken.
-        MatchBool is_taken (TakesAt _setup.now events.now place value.now (index + 1))
-        (TakesAt _setup.now events.now place value.now (index + 1) → ⊥)) }
-    ensures err { IfErr result (Halted _setup.now events.now) }
-{
-    match state.step(events[index]) {
-        Ok(past) => Ok(took(state, &past, place, value)),
-        Err(refusal) => {
-            if let Refusal::Memory = refusal {
-                return Err(Ended::Memory);
-            }
-            Err(Ended::Refused(index as u32, refusal))
-        }
-    }
-}
-
 // Returns the first moment of two: one found before, if any, and this one if the place takes the
 // value then.
 fn first_of(reached: Option<u32>, is_taken: bool, moment: u32) -> Option<u32>
@@ -77,27 +75,45 @@ fn first_of(reached: Option<u32>, is_taken: bool, moment: u32) -> Option<u32>
     }
 }
 
-/// Steps the events of a run from its start, and returns the first moment at which the place takes
-/// the value.
-pub(crate) fn first_taken(
-    state: &mut State,
-    setup: &Setup,
-    events: &[Event],
-    place: Place,
-    value: &Value,
-) -> Result<Option<u32>, Ended<AllocError>>
-    requires starts { state.old ≡ start setup.now }
-    requires most { length events.now ≤ 1048576 }
-    ensures runs { OnOk result (Accepts (start setup.now) events.now) }
-    ensures at { OnOk result (IsAt setup.now events.now (length events.now) state.new) }
-    ensures first { IfOk result
-        (IsFirstUpTo setup.now events.now (length events.now) place value.now) }
-    ensures err { IfErr result (Halted setup.now events.now) }
-{
-    let mut reached = None;
-    for index in 0..events.len() {
-        let is_taken = step(state, setup, events, index, place, value)?;
-        reached = first_of(reached, is_taken, index as u32 + 1);
+impl<K: Sought> Lookout<K> {
+    /// Returns an observer that has seen no event.
+    #[tactic(auto, using(crate::proofs::Taking::looked_none))]
+    pub(crate) fn new(place: Place, value: Value) -> Lookout<K>
+        requires place { place ≡ K.place }
+        requires value { value ≡ K.value }
+        ensures place { result.place ≡ K.place }
+        ensures value { result.value ≡ K.value }
+        ensures looked { (s : Setup) (es : List Event) → length es ≤ 1048576
+            → HasLooked s es 0 result.place result.value result.reached }
+    {
+        Lookout {
+            place,
+            value,
+            reached: None,
+            proof: PhantomData,
+        }
     }
-    Ok(reached)
+}
+
+impl<K: Sought> Observer for Lookout<K> {
+    type Note = ();
+
+    type Stop = Infallible;
+
+    ghost has_seen = { λ o s es i. (o.place ≡ K.place) × (o.value ≡ K.value)
+        × HasLooked s es i o.place o.value o.reached };
+
+    ghost notes = { λ s es i n. Unit {0} };
+
+    ghost stops = { λ o s es i x. ⊥ };
+
+    fn before(&self, _at: Observed<'_>) -> Result<(), Infallible> {
+        Ok(())
+    }
+
+    fn after(&mut self, at: Observed<'_>, past: &Record, _note: ()) -> Result<(), Infallible> {
+        let is_taken = took(at.state, past, self.place, &self.value);
+        self.reached = first_of(self.reached, is_taken, at.index as u32 + 1);
+        Ok(())
+    }
 }
