@@ -28,5 +28,6 @@ pub use scripts::script_of;
 pub use serving::serve;
 pub use session::Session;
 pub use source::{NoSource, Source};
+pub use texts::fault_text;
 pub use tracing::{Traced, migrate_trace, trace_eager, trace_script};
 pub use walking::{walk, walk_events};

@@ -15,18 +15,24 @@ pub(crate) fn at_line(alloc: Global, at: usize, len: usize) -> Result<Vec<u8>, A
     Ok(text.into_bytes())
 }
 
-pub(crate) fn fault_line(alloc: Global, fault: CommandFault) -> Result<Vec<u8>, AllocError>
-    ensures { IfOk result (λ v. v.items ≡ fault_text fault) }
+/// Returns the reply to a line that isn't a command, with its line feed.
+pub fn fault_text(fault: CommandFault) -> &'static str
+    ensures { result.now ≡ fault_text fault }
 {
-    let text = match fault {
+    match fault {
         CommandFault::Command => "fault 1 command\n",
         CommandFault::Number => "fault 2 number\n",
         CommandFault::Place => "fault 3 place\n",
         CommandFault::Long => "fault 4 long\n",
         CommandFault::Value => "fault 5 value\n",
         CommandFault::Many => "fault 6 many\n",
-    };
-    Vec::from_slice(alloc, text.as_bytes())
+    }
+}
+
+pub(crate) fn fault_line(alloc: Global, fault: CommandFault) -> Result<Vec<u8>, AllocError>
+    ensures { IfOk result (λ v. v.items ≡ fault_text fault) }
+{
+    Vec::from_slice(alloc, fault_text(fault).as_bytes())
 }
 
 pub(crate) fn value_line(alloc: Global, value: Option<Value>) -> Result<Vec<u8>, AllocError>

@@ -9,8 +9,9 @@ use crate::explaining::kinds_of;
 use crate::output::{Output, write_text};
 use crate::progress::Progress;
 use crate::{SCRIPT_AND_ONE, TOO_LONG, fail, file_fault};
+use commands::CommandFault;
 use conclusions::{Conclusion, ConclusionFault, Reporting, conclude, symptom_of};
-use debug_server::{Exploration, Fault, KINDS, RunFault};
+use debug_server::{Exploration, Fault, KINDS, RunFault, fault_text};
 use exploring::{RandomRuns, explore};
 use machine::Setup;
 use rewriting::RewriteFault;
@@ -52,10 +53,9 @@ struct Task<'a> {
 }
 
 // Reports that there is no such place, or that it can't have the value.
-fn refuse_until(rt: &impl Eprint, until: &str) -> ExitCode {
-    match eprintln!(rt;
-        "error: invalid value '{until}' for '--until <P = V>': no such place, or no such value of it"
-    ) {
+fn refuse_until(rt: &impl Eprint, fault: CommandFault) -> ExitCode {
+    let text = fault_text(fault);
+    match eprint!(rt; "{text}") {
         Ok(()) | Err(_) => ExitCode::from(WORDS),
     }
 }
@@ -178,8 +178,8 @@ fn explore_setup<R: Files + Print + Eprint + AllocGlobal + Threads + Clock + Syn
         return Err(MEMORY);
     };
     match symptom_of(rt.alloc(), setup, &kinds, task.words.until) {
-        Ok(Some(symptom)) => explore_for(rt, task, setup, symptom),
-        Ok(None) => Ok(refuse_until(rt, task.words.until.unwrap_or(""))),
+        Ok(Ok(symptom)) => explore_for(rt, task, setup, symptom),
+        Ok(Err(fault)) => Ok(refuse_until(rt, fault)),
         Err(_) => Err(MEMORY),
     }
 }
