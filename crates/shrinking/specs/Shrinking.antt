@@ -6,21 +6,14 @@ use Rattle.scenario.specs.declared.setup.Setup.{Setup}
 use Rattle.machine.specs.Runs.{start, run, Accepts}
 use Rattle.quiescence.specs.Over.{IsOver}
 use Rattle.finding_kinds.specs.declared.finding.Finding.{Finding}
-use Rattle.finding_kinds.specs.declared.kind.Kind.{Kind}
-use Rattle.finding_kinds.specs.declared.kind.Kind.TheVariants.{Lasting, Left}
 use Rattle.symptoms.specs.declared.symptom.Sighting.{Sighting}
 use Rattle.symptoms.specs.declared.symptom.Symptom.{Symptom}
 use Rattle.symptoms.specs.declared.symptom.Symptom.TheVariants as sought
 use Rattle.symptoms.specs.declared.symptom.Wanted.TheVariants.{Exactly}
-use Rattle.symptoms.specs.Symptoms.{Shows, IsSighting}
+use Rattle.symptoms.specs.Symptoms.{is_of_end, Shows, IsSighting}
 use Rattle.shrinking.specs.declared.goal.Goal.{Goal}
 
--- Whether findings of a kind are about the end of a run: what lasts to it, or is left then.
-abbrev pub is_of_end : Kind → Bool
-is_of_end (Lasting kind) = true
-is_of_end (Left kind) = true
-is_of_end kind = false
-
+-- Whether a finding is about the end of a run.
 abbrev pub is_at_end : Option Finding → Bool
 is_at_end (Some f) = is_of_end f.kind
 is_at_end None = false

@@ -4,16 +4,16 @@ ghost use Rattle.scenario.specs.Setups.{setup_refusal};
 ghost use Rattle.machine.specs.Runs.{start, run, Accepts};
 ghost use Rattle.quiescence.specs.Over.{IsOver, SaysOver};
 ghost use Rattle.symptoms.specs.Symptoms.{IsSighting};
-ghost use Rattle.shrinking.specs.Shrinking.{CanKeep, IsKept, is_of_end, is_at_end, narrowed, IsGoal, IsShrunk};
+ghost use Rattle.shrinking.specs.Shrinking.{CanKeep, IsKept, is_at_end, narrowed, IsGoal, IsShrunk};
 
 use crate::attempts::Best;
 use crate::goal::{Goal, ends_over};
 use crate::passes::{cut, fill_up, halve, settle};
-use finding_kinds::{Finding, Kind};
+use finding_kinds::Finding;
 use machine::{Event, Setup, State};
 use runs::drive;
 use std::alloc::{AllocError, Global};
-use symptoms::{Sighting, Symptom, Wanted};
+use symptoms::{Sighting, Symptom, Wanted, is_of_end};
 
 /// The greatest number of candidates.
 const ATTEMPTS: u32 = 1000;
@@ -23,13 +23,6 @@ const ATTEMPTS: u32 = 1000;
 pub struct Shrunk {
     pub events: Vec<Event>,
     pub sighting: Sighting,
-}
-
-// Returns whether findings of a kind are about the end of a run.
-fn is_of_end(kind: Kind) -> bool
-    ensures { result ≡ is_of_end kind }
-{
-    matches!(kind, Kind::Lasting(_) | Kind::Left(_))
 }
 
 fn is_at_end(finding: Option<Finding>) -> bool
