@@ -2,4 +2,3 @@ pub mod First
 pub mod Taking
 pub mod ConclusiveFindings
 pub mod Sighted
-pub mod Halting

@@ -1,7 +1,5 @@
 //! Examines a run for a symptom.
-ghost use Rattle.std.specs.Prelude.{◌≡◌, ◌≤◌, length, find, option_map, IfOk, OnOk, IfErr, List};
-ghost use Rattle.scenario.specs.declared.event.Event.{Event};
-ghost use Rattle.scenario.specs.declared.setup.Setup.{Setup};
+ghost use Rattle.std.specs.Prelude.{◌≡◌, ◌≤◌, length, find, option_map, IfOk, OnOk, IfErr};
 ghost use Rattle.machine.specs.Runs.{start, Accepts};
 ghost use Rattle.runs.specs.Moments.{IsAt};
 ghost use Rattle.findings.specs.Searching.{Halted};
@@ -114,16 +112,6 @@ fn examine_findings(
     })
 }
 
-// Returns why a search ends early. Its observers stop only where an allocation fails.
-fn halted_as<E: Drop>(ended: Ended<E>) -> Ended<AllocError>
-    ensures { (s : Setup) (es : List Event) → Halted s es ended → Halted s es result }
-{
-    match ended {
-        Ended::Refused(index, refusal) => Ended::Refused(index, refusal),
-        Ended::Memory | Ended::Stopped(_) => Ended::Memory,
-    }
-}
-
 // Looks for the first moment at which the place takes the value.
 fn examine_place_as<K: Sought>(
     alloc: Global,
@@ -152,15 +140,18 @@ fn examine_place_as<K: Sought>(
         first: search,
         second: Lookout::new(place, *value),
     };
-    if let Err(ended) = drive(state, setup, events, &mut observers) {
-        return Err(halted_as(ended));
-    }
-    let Pair { first, second } = observers;
-    match conclusive_findings(first, setup, events, state) {
-        Ok(findings) => Ok(Examined {
-            sighting: sighting_at(second.reached),
-            findings,
-        }),
+    match drive(state, setup, events, &mut observers) {
+        Ok(()) => {
+            let Pair { first, second } = observers;
+            match conclusive_findings(first, setup, events, state) {
+                Ok(findings) => Ok(Examined {
+                    sighting: sighting_at(second.reached),
+                    findings,
+                }),
+                Err(_) => Err(Ended::Memory),
+            }
+        }
+        Err(Ended::Refused(index, refusal)) => Err(Ended::Refused(index, refusal)),
         Err(_) => Err(Ended::Memory),
     }
 }
