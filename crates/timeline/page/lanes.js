@@ -1,0 +1,145 @@
+// The lanes of the picture: threads, poller, rings,
+// backlog and clock, and below them the rows that are in view.
+
+// Sizes in pixels.
+const AXIS = 40, LANE = 24, GRAPH = 36, CLOCK = 28, ROW = 22, MARGIN = 90, MOST_COLUMN = 64;
+
+const ENDINGS = {
+  good: 'completed', short: 'completed short', bad: 'completed with an error', canceled: 'canceled (-125)',
+  expired: 'timed out (-62)', open: 'not completed',
+};
+
+const {from, to, findings} = run;
+const rows = new Map(run.rows.map((row) => [row.row, row]));
+
+function lane_key(word, number) {
+  if (word === 'step') return `thread ${number}`;
+  if (word === 'take' || word === 'sleep') return 'poller';
+  return word === 'tick' ? 'clock' : `row ${number}`;
+}
+
+const steps = run.steps.map((step, k) => {
+  const [word, number] = step.event.split(' ');
+  return Object.assign(step, {index: from + k, word, key: lane_key(word, number)});
+});
+
+function ending(row) {
+  if (row.ended === null) return 'open';
+  if (row.result === -125) return 'canceled';
+  if (row.result === -62) return 'expired';
+  if (row.result < 0) return 'bad';
+  return [READ, WRITE].includes(row.op) && row.result < row.len ? 'short' : 'good';
+}
+
+// Returns the lane of the thread or poller that submitted a row, or null if that is before the first moment.
+function submitter(row) {
+  const step = steps[row.queued - 1 - from];
+  return step ? step.key : null;
+}
+
+for (const row of run.rows) Object.assign(row, {ending: ending(row), by: submitter(row)});
+
+// Returns the periods in which a place has a value that passes a test.
+function spans(place, holds) {
+  const found = [];
+  let value = new Map(run.values).get(place), since = holds(value) ? from : null;
+  for (const step of steps) {
+    const changed = step.changes.find((it) => it[0] === place);
+    if (!changed) continue;
+    if (since !== null) found.push({since, until: step.index + 1, value});
+    value = changed[2];
+    since = holds(value) ? step.index + 1 : null;
+  }
+  if (since !== null) found.push({since, until: to, value});
+  return found;
+}
+
+// Returns the rows that an event of another row completed: a cancel, a linked timeout, or a completion that a timeout
+// counts.
+function causes() {
+  const ended = new Map(), found = [];
+  for (const row of run.rows) {
+    if (row.ended === null) continue;
+    if (!ended.has(row.ended)) ended.set(row.ended, []);
+    ended.get(row.ended).push(row);
+  }
+  for (const step of steps.filter((it) => it.word === 'finish' || it.word === 'expire')) {
+    const cause = rows.get(step.row);
+    for (const row of ended.get(step.index + 1) || []) {
+      const is_other = cause && row !== cause && (row.unit !== cause.unit || row.row === cause.target);
+      if (is_other) found.push({cause, row, index: step.index});
+    }
+  }
+  return found;
+}
+const arrows = causes();
+
+// ---- the lanes above the rows
+
+function thread_lanes() {
+  return run.programs.map((_, t) => ({
+    key: `thread ${t}`, label: `thread ${t}`, height: LANE, does: 'waits', thread: `thread ${t}`,
+    spans: spans(`stage ${t}`, (it) => it.startsWith('waiting')),
+  }));
+}
+
+function poller_lanes() {
+  if (!new Map(run.values).has('poller')) return [];
+  const asleep = spans('poller', (it) => it === 'asleep');
+  return [{key: 'poller', label: 'poller', height: LANE, does: 'sleeps', thread: 'poller', spans: asleep}];
+}
+
+function ring_lanes() {
+  const labels = [`submission ring (${run.entries})`, `completion ring (${run.completions})`, 'backlog'];
+  return labels.map((label, part) => {
+    const most = run.fillings.reduce((highest, it) => Math.max(highest, it[part]), 1);
+    return {key: label, label, height: GRAPH, part, most};
+  });
+}
+
+const head_lanes = [...thread_lanes(), ...poller_lanes(), ...ring_lanes(), {key: 'clock', label: 'clock (ns)', height: CLOCK}];
+const row_lanes = run.rows.map((row) => ({key: `row ${row.row}`, label: `row ${row.row} ${row.name}`, height: ROW, row}));
+
+// How many rows have not completed at each moment.
+const alive_counts = (() => {
+  const counts = new Int32Array(to - from + 2);
+  for (const row of run.rows) {
+    counts[Math.max(0, row.queued - from)] += 1;
+    if (row.ended !== null && row.ended <= to) counts[Math.max(0, row.ended - from)] -= 1;
+  }
+  for (let i = 1; i < counts.length; i += 1) counts[i] += counts[i - 1];
+  return counts;
+})();
+
+// ---- what is in view
+
+const view = {
+  moment: from, lane: null, left: from, column: 24, raw: false, folds: true, thread: '', found: [], query: '',
+};
+
+const labels_width = () => (main.clientWidth < 560 ? 118 : 196);
+const plot_width = () => Math.max(40, main.clientWidth - labels_width());
+const last_moment = () => view.left + plot_width() / view.column;
+
+function is_in_view(row) {
+  return row.queued <= last_moment() && (row.ended === null || row.ended >= view.left - 1);
+}
+const passes_filter = (lane) => !view.thread || (lane.row ? lane.row.by === view.thread : !lane.thread || lane.thread === view.thread);
+
+// Returns the lanes that are drawn, each with its top, and how many rows are folded away.
+function layout() {
+  const lanes = [];
+  let top = AXIS, folded = 0;
+  const add = (lane) => {
+    lanes.push(Object.assign(lane, {top}));
+    top += lane.height;
+  };
+  head_lanes.filter(passes_filter).forEach(add);
+  const head_count = lanes.length, head_height = top + 6;
+  top = head_height;
+  for (const lane of row_lanes.filter(passes_filter)) {
+    if (view.folds && !is_in_view(lane.row)) folded += 1;
+    else add(lane);
+  }
+  return {lanes, head_count, head_height, height: top + (folded ? ROW : 8), folded, index: new Map(lanes.map((it, k) => [it.key, k]))};
+}

@@ -1,0 +1,214 @@
+//! The values of all places at the first moment of a page.
+ghost use Rattle.std.specs.Prelude.{◌≡◌, ◌++◌, ℕ, [], map, replicate, string_bytes, IfOk, OnOk};
+ghost use Rattle.std.specs.List.{All};
+ghost use Rattle.std.specs.Str.Lossy.{utf8_lossy};
+ghost use Rattle.base64.specs.GeneralPurpose.{encode_of};
+ghost use Rattle.base64.specs.Engines.{standard};
+ghost use Rattle.scenario.specs.PlaceTexts.{place_text};
+ghost use Rattle.machine.specs.Whole.{view};
+ghost use Rattle.timeline.specs.Values.{value_texts, value_listed, lone_places, places_at, values_of, values_below, bytes_below, IsRegionPart, AreValues};
+
+use crate::changes::{add_byte, value_string};
+use crate::parts::ValuePart;
+use base64::engine::general_purpose::STANDARD;
+use machine::{Setup, State};
+use places::{Place, Region, Value};
+use scenario::put_place;
+use std::alloc::{AllocError, Global};
+
+/// One more than the largest index of a place.
+const INDEXES: u32 = 65536;
+
+/// The places of a state that have no index, and are no bytes.
+const LONE: [Place; 10] = [
+    Place::SubmissionHead,
+    Place::SubmissionTail,
+    Place::SubmissionFlags,
+    Place::SubmissionDropped,
+    Place::CompletionHead,
+    Place::CompletionTail,
+    Place::BacklogFront,
+    Place::Clock,
+    Place::Counted,
+    Place::PollerStage,
+];
+
+/// The values of all places at a moment.
+#[derive(Drop)]
+pub(crate) struct Values {
+    /// The values of places that are no bytes.
+    pub values: Vec<ValuePart>,
+    /// The bytes of the memory and of the objects.
+    pub regions: Vec<ValuePart>,
+}
+
+// Returns the name of a place.
+fn place_string(alloc: Global, setup: &Setup, place: Place) -> Result<String, AllocError>
+    ensures { IfOk result (λ text. string_bytes text
+        ≡ utf8_lossy (place_text setup.now place)) }
+{
+    let mut text = Vec::new(alloc);
+    put_place(alloc, &mut text, setup, place)?;
+    String::from_utf8_lossy(alloc, text.as_slice())
+}
+
+// Adds a place with its value, unless it is absent.
+fn add_value(
+    alloc: Global,
+    out: &mut Vec<ValuePart>,
+    setup: &Setup,
+    place: Place,
+    value: Option<Value>,
+) -> Result<(), AllocError>
+    ensures { OnOk result (map value_texts out.new.items
+        ≡ map value_texts out.old.items ++ value_listed setup.now place value) }
+{
+    if value.is_none() {
+        return Ok(());
+    }
+    let name = place_string(alloc, setup, place)?;
+    let text = value_string(alloc, value)?;
+    out.push(ValuePart(name, text))?;
+    Ok(())
+}
+
+// Adds the values of places.
+fn add_values(
+    alloc: Global,
+    out: &mut Vec<ValuePart>,
+    setup: &Setup,
+    state: &State,
+    places: &[Place],
+) -> Result<(), AllocError>
+    ensures { OnOk result (map value_texts out.new.items
+        ≡ map value_texts out.old.items ++ values_of setup.now (view state.now) places.now) }
+{
+    for place in places {
+        add_value(alloc, out, setup, *place, state.value(*place))?;
+    }
+    Ok(())
+}
+
+// Returns the places with this index that are no bytes.
+fn places_at(index: u32) -> [Place; 16]
+    ensures { result ≡ places_at index }
+{
+    [
+        Place::Array(index),
+        Place::Slot(index),
+        Place::Completion(index),
+        Place::FileLength(index),
+        Place::DurableLength(index),
+        Place::Position(index),
+        Place::OpenMark(index),
+        Place::PutCount(index),
+        Place::TakenCount(index),
+        Place::EventCount(index),
+        Place::Request(index),
+        Place::Backlog(index),
+        Place::ProgramCounter(index),
+        Place::ThreadStage(index),
+        Place::Last(index),
+        Place::Got(index),
+    ]
+}
+
+// Returns the values of all places that are no bytes.
+fn values_of(alloc: Global, setup: &Setup, state: &State) -> Result<Vec<ValuePart>, AllocError>
+    ensures { IfOk result (λ values. map value_texts values.items
+        ≡ values_of setup.now (view state.now) lone_places
+        ++ values_below setup.now (view state.now) 65536) }
+{
+    let mut out = Vec::new(alloc);
+    add_values(alloc, &mut out, setup, state, &LONE)?;
+    for index in 0..INDEXES {
+        add_values(alloc, &mut out, setup, state, &places_at(index))?;
+    }
+    Ok(out)
+}
+
+// Returns the bytes of a region.
+fn bytes_of(alloc: Global, state: &State, region: Region) -> Result<Vec<u8>, AllocError>
+    ensures { IfOk result (λ bytes. bytes.items
+        ≡ bytes_below (view state.now) region 65536) }
+{
+    let mut bytes = Vec::new(alloc);
+    for index in 0..INDEXES {
+        add_byte(&mut bytes, state.value(region.place(index)))?;
+    }
+    Ok(bytes)
+}
+
+// Returns bytes without the zeros at their end.
+fn without_zeros(bytes: &[u8]) -> &[u8]
+    ensures { (zeros : ℕ) × (bytes.entry.now ≡ result.now ++ replicate zeros 0) }
+{
+    let mut rest = bytes;
+    while let [front @ .., 0] = rest {
+        rest = front;
+    }
+    rest
+}
+
+// Adds the bytes of a region, unless they are zeros.
+fn add_region(
+    alloc: Global,
+    out: &mut Vec<ValuePart>,
+    setup: &Setup,
+    state: &State,
+    region: Region,
+) -> Result<(), AllocError>
+    requires { All (IsRegionPart setup.now (view state.now)) out.old.items }
+    ensures { OnOk result (All (IsRegionPart setup.entry.now (view state.entry.now)) out.new.items) }
+{
+    let whole = bytes_of(alloc, state, region)?;
+    let bytes = without_zeros(whole.as_slice());
+    if bytes.is_empty() {
+        return Ok(());
+    }
+    let name = place_string(alloc, setup, region.place(0))?;
+    let text = STANDARD.encode(alloc, bytes)?;
+    out.push(ValuePart(name, text))?;
+    Ok(())
+}
+
+// Adds the bytes of an object.
+fn add_object(
+    alloc: Global,
+    out: &mut Vec<ValuePart>,
+    setup: &Setup,
+    state: &State,
+    object: u32,
+) -> Result<(), AllocError>
+    requires { All (IsRegionPart setup.now (view state.now)) out.old.items }
+    ensures { OnOk result (All (IsRegionPart setup.entry.now (view state.entry.now)) out.new.items) }
+{
+    add_region(alloc, out, setup, state, Region::File(object))?;
+    add_region(alloc, out, setup, state, Region::Durable(object))?;
+    add_region(alloc, out, setup, state, Region::Pipe(object))
+}
+
+// Returns the bytes of the memory and of all objects.
+fn regions_of(alloc: Global, setup: &Setup, state: &State) -> Result<Vec<ValuePart>, AllocError>
+    ensures { IfOk result (λ parts. All (IsRegionPart setup.now (view state.now)) parts.items) }
+{
+    let mut out = Vec::new(alloc);
+    add_region(alloc, &mut out, setup, state, Region::Memory)?;
+    for object in 0..setup.objects.len() as u32 {
+        add_object(alloc, &mut out, setup, state, object)?;
+    }
+    Ok(out)
+}
+
+impl Values {
+    /// Returns the values of a state.
+    pub(crate) fn new(alloc: Global, setup: &Setup, state: &State) -> Result<Values, AllocError>
+        ensures { IfOk result (λ x. AreValues setup.now (view state.now) x.values.items
+            x.regions.items) }
+    {
+        Ok(Values {
+            values: values_of(alloc, setup, state)?,
+            regions: regions_of(alloc, setup, state)?,
+        })
+    }
+}
