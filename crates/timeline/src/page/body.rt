@@ -11,7 +11,7 @@ pub(crate) const TEXT: &str = r##"</style>
 <form id="go"><label>Moment <input id="moment" type="number" inputmode="numeric"></label> <button>Go</button></form>
 <form id="seek" role="search"><label>Find <input id="search" type="search" placeholder="row 12, ud 7, READ, ECANCELED, sq.tail" size="26"></label> <button>Next</button> <output id="found" class="faint"></output></form>
 <label>Lanes of <select id="thread"><option value="">all threads</option></select></label>
-<label><input id="folds" type="checkbox" checked> fold rows out of view</label>
+<label><input id="folds" type="checkbox" checked> fold lanes with nothing in view</label>
 <span><button type="button" id="less" aria-label="zoom out">&minus;</button> <button type="button" id="more" aria-label="zoom in">+</button> <button type="button" id="fit">Whole run</button></span>
 <button type="button" id="raw" aria-pressed="false">Raw bytes</button>
 <details id="key"><summary>Key</summary><div id="legend"></div>

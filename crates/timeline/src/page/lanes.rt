@@ -95,9 +95,16 @@ function poller_lanes() {
 function ring_lanes() {
   const labels = [`submission ring (${run.entries})`, `completion ring (${run.completions})`, 'backlog'];
   return labels.map((label, part) => {
-    const most = run.fillings.reduce((highest, it) => Math.max(highest, it[part]), 1);
-    return {key: label, label, height: GRAPH, part, most};
+    const most = run.fillings.reduce((highest, it) => Math.max(highest, it[part]), 0);
+    return {key: label, label, height: GRAPH, part, most: Math.max(1, most), is_used: most > 0};
   });
+}
+
+// The indexes of each lane's events, in order.
+const events_by_lane = new Map();
+for (const step of steps) {
+  if (!events_by_lane.has(step.key)) events_by_lane.set(step.key, []);
+  events_by_lane.get(step.key).push(step.index);
 }
 
 const head_lanes = [...thread_lanes(), ...poller_lanes(), ...ring_lanes(), {key: 'clock', label: 'clock (ns)', height: CLOCK}];
@@ -120,16 +127,42 @@ const view = {
   moment: from, lane: null, left: from, column: 24, raw: false, folds: true, thread: '', found: [], query: '',
 };
 
-const labels_width = () => (main.clientWidth < 560 ? 118 : 196);
-const plot_width = () => Math.max(40, main.clientWidth - labels_width());
+// The size of the picture, and how far its rows are scrolled. Reading them from the page is slow, so it is done once.
+const size = {width: 0, height: 0, top: 0};
+function measure() {
+  Object.assign(size, {width: main.clientWidth, height: main.clientHeight, top: main.scrollTop});
+}
+measure();
+
+const labels_width = () => (size.width < 560 ? 118 : 196);
+const plot_width = () => Math.max(40, size.width - labels_width());
 const last_moment = () => view.left + plot_width() / view.column;
 
 function is_in_view(row) {
   return row.queued <= last_moment() && (row.ended === null || row.ended >= view.left - 1);
 }
+
+// Returns whether one of some numbers in order is from one number to another.
+function has_between(numbers, low, high) {
+  let begin = 0, end = numbers.length;
+  while (begin < end) {
+    const middle = (begin + end) >> 1;
+    if (numbers[middle] < low) begin = middle + 1;
+    else end = middle;
+  }
+  return begin < numbers.length && numbers[begin] <= high;
+}
+
+// Returns whether a lane has something to show: a thread or the poller in the part in view, the backlog in the run.
+function is_used(lane) {
+  if (lane.key === view.lane || (!lane.thread && lane.key !== 'backlog')) return true;
+  if (lane.key === 'backlog') return lane.is_used;
+  const low = Math.floor(view.left), high = last_moment();
+  return has_between(events_by_lane.get(lane.key) || [], low, high) || lane.spans.some((it) => it.since <= high && it.until >= low);
+}
 const passes_filter = (lane) => !view.thread || (lane.row ? lane.row.by === view.thread : !lane.thread || lane.thread === view.thread);
 
-// Returns the lanes that are drawn, each with its top, and how many rows are folded away.
+// Returns the lanes that are drawn, each with its top, and how many are folded away.
 function layout() {
   const lanes = [];
   let top = AXIS, folded = 0;
@@ -137,7 +170,10 @@ function layout() {
     lanes.push(Object.assign(lane, {top}));
     top += lane.height;
   };
-  head_lanes.filter(passes_filter).forEach(add);
+  for (const lane of head_lanes.filter(passes_filter)) {
+    if (view.folds && !is_used(lane)) folded += 1;
+    else add(lane);
+  }
   const head_count = lanes.length, head_height = top + 6;
   top = head_height;
   for (const lane of row_lanes.filter(passes_filter)) {

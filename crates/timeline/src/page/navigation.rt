@@ -25,14 +25,18 @@ function keep_in_view() {
 
 // Scrolls to the rows that have not completed at the moment, or else to the last one that has.
 function keep_rows_in_view() {
-  const place = frame(), chosen = place.index.get(view.lane);
+  const place = frame(layout()), chosen = place.index.get(view.lane);
+  room.style.height = `${Math.max(place.height, size.height)}px`;
   const shown_rows = place.lanes.slice(place.head_count).filter((lane) => lane.row.queued <= Math.max(view.moment, from));
   const alive = shown_rows.find((lane) => lane.row.ended === null || lane.row.ended >= view.moment);
   const lane = chosen >= place.head_count ? place.lanes[chosen] : alive || shown_rows[shown_rows.length - 1];
   if (!lane) return;
-  const room_below = main.clientHeight - place.view_top;
-  if (lane.top - main.scrollTop < place.view_top) main.scrollTop = lane.top - place.view_top;
-  if (lane.top + 3 * ROW - main.scrollTop > main.clientHeight) main.scrollTop = lane.top - place.view_top - Math.max(0, room_below / 3);
+  let top = size.top;
+  if (lane.top - top < place.view_top) top = lane.top - place.view_top;
+  if (lane.top + 3 * ROW - top > size.height) top = lane.top - place.view_top - Math.max(0, (size.height - place.view_top) / 3);
+  top = within(0, top, Math.max(0, place.height - size.height));
+  if (top !== size.top) main.scrollTop = top;
+  size.top = top;
 }
 
 // ---- the moment
@@ -46,7 +50,6 @@ function put_hash() {
 function show() {
   by_id('moment').value = view.moment;
   keep_in_view();
-  draw();
   keep_rows_in_view();
   draw();
   show_panel();
@@ -83,12 +86,18 @@ function step_to(moments, direction) {
 }
 const step_to_finding = (direction) => step_to(findings.map((it) => it.moment), direction);
 
+// Draws the picture after the part in view has changed.
+function redraw() {
+  room.style.height = `${Math.max(layout().height, size.height)}px`;
+  draw();
+}
+
 function zoom(factor, moment) {
   const fixed = moment === undefined ? view.moment : moment, column = within(least_column(), view.column * factor, MOST_COLUMN);
   view.left = fixed - (fixed - view.left) * view.column / column;
   view.column = column;
   keep_within();
-  draw();
+  redraw();
 }
 function fit() {
   view.column = least_column();
@@ -178,8 +187,8 @@ document.addEventListener('keydown', on_key);
 
 // Returns the moment and the lane under the pointer.
 function under(e) {
-  const box = picture.getBoundingClientRect(), x = e.clientX - box.left, y = e.clientY - box.top, place = frame();
-  const depth = place.pinned && y < place.head_height ? y : y + main.scrollTop;
+  const box = picture.getBoundingClientRect(), x = e.clientX - box.left, y = e.clientY - box.top, place = frame(layout());
+  const depth = place.pinned && y < place.head_height ? y : y + size.top;
   const lane = place.lanes.find((it) => depth >= it.top && depth < it.top + it.height);
   return {x, y, moment: view.left + (x - labels_width()) / view.column, lane: lane ? lane.key : null};
 }
@@ -191,7 +200,7 @@ function on_wheel(e) {
   if (Math.abs(e.deltaX) > Math.abs(e.deltaY)) {
     view.left += e.deltaX / view.column;
     keep_within();
-    draw();
+    redraw();
   } else {
     zoom(1.0018 ** -e.deltaY, moment);
   }
@@ -200,7 +209,7 @@ main.addEventListener('wheel', on_wheel, {passive: false});
 
 let drag = null;
 picture.addEventListener('pointerdown', (e) => {
-  drag = {x: e.clientX, y: e.clientY, left: view.left, top: main.scrollTop, moved: false};
+  drag = {x: e.clientX, y: e.clientY, left: view.left, top: size.top, moved: false};
   picture.setPointerCapture(e.pointerId);
 });
 picture.addEventListener('pointermove', (e) => {
@@ -211,7 +220,8 @@ picture.addEventListener('pointermove', (e) => {
   view.left = drag.left - dx / view.column;
   keep_within();
   main.scrollTop = drag.top - dy;
-  draw();
+  size.top = main.scrollTop;
+  redraw();
 });
 picture.addEventListener('pointerup', (e) => {
   const was = drag, {x, y, moment, lane} = under(e);
@@ -231,7 +241,7 @@ function move_to(e) {
   const box = overview.getBoundingClientRect(), part = (e.clientX - box.left) / Math.max(1, box.width);
   view.left = from + part * (to - from) - plot_width() / view.column / 2;
   keep_within();
-  draw();
+  redraw();
 }
 overview.addEventListener('pointerdown', (e) => {
   const group = e.target.closest('[data-moment]');
@@ -276,7 +286,15 @@ by_id('state').addEventListener('click', (e) => {
   const button = e.target.closest('button.row');
   if (button) pick(Math.max(from, rows.get(Number(button.dataset.row)).queued - 1), `row ${button.dataset.row}`);
 });
-main.addEventListener('scroll', () => requestAnimationFrame(draw));
-window.addEventListener('resize', draw);
+main.addEventListener('scroll', () => {
+  if (main.scrollTop === size.top) return;
+  size.top = main.scrollTop;
+  draw();
+});
+new ResizeObserver(() => {
+  measure();
+  draw_overview();
+  show();
+}).observe(main);
 window.addEventListener('hashchange', () => pick(Number(location.hash.slice(1))));
 "##;

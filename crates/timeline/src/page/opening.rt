@@ -63,6 +63,7 @@ function show_around(moment) {
 }
 
 const now_state = first_state(run);
+draw_overview();
 show_around(first_moment());
 pick(view.moment);
 main.focus({preventScroll: true});

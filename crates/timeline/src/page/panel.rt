@@ -31,15 +31,13 @@ function findings_html() {
 }
 
 // Marks the findings at the moment in the list, and brings the first of them into view.
+let current = [];
 function show_findings() {
-  let first = null;
-  for (const button of by_id('findings').querySelectorAll('button')) {
-    const is_here = Number(button.dataset.moment) === view.moment;
-    button.setAttribute('aria-current', is_here);
-    if (is_here && !first) first = button;
-  }
   const box = by_id('findings');
-  if (first) box.scrollTop = first.offsetTop - box.offsetTop - 4;
+  for (const button of current) button.removeAttribute('aria-current');
+  current = [...box.querySelectorAll(`[data-moment="${view.moment}"]`)];
+  for (const button of current) button.setAttribute('aria-current', 'true');
+  if (current.length) box.scrollTop = current[0].offsetTop - box.offsetTop - 4;
 }
 
 // ---- rings
@@ -132,19 +130,18 @@ function rows_html(state) {
 
 // ---- bytes
 
-// Returns the bytes that an event changed, as a test of a region and an index.
-function changed_by(step) {
-  const all = (step ? step.changes : []).map(([place]) => bytes_at(place)).filter((it) => it);
-  return (region, index) => all.some((it) => it.region === region && it.first <= index && index <= it.last);
-}
+// Returns the runs of bytes that an event changed, each with its region.
+const changed_runs = (step) => (step ? step.changes : []).map(([place]) => bytes_at(place)).filter((it) => it);
+const has_byte = (runs, region, index) => runs.some((it) => it.region === region && it.first <= index && index <= it.last);
 
 const DUMP_LINE = 16, MOST_LINES = 16;
+const line_of = (index) => Math.floor(index / DUMP_LINE);
 
 // Returns lines of 16 bytes in hex and as text, with the changed ones marked.
-function dump(bytes, region, lines, is_changed) {
+function dump(bytes, lines, is_changed) {
   return element('pre', {class: 'dump'}, lines.map((line) => {
     const start = line * DUMP_LINE, all = Array.from(bytes.subarray(start, Math.min(bytes.length, start + DUMP_LINE)));
-    const marked = (text, k) => (is_changed(region, start + k) ? element('mark', {}, plain(text)) : plain(text));
+    const marked = (text, k) => (is_changed(start + k) ? element('mark', {}, plain(text)) : plain(text));
     const hex = all.map((byte, k) => marked(byte.toString(16).padStart(2, '0'), k)).join(' ');
     const text = all.map((byte, k) => marked(text_of([byte]), k)).join('');
     return `<span class="faint">${String(start).padStart(5)}</span>  ${hex}${'   '.repeat(DUMP_LINE - all.length)}  ${text}`;
@@ -152,69 +149,71 @@ function dump(bytes, region, lines, is_changed) {
 }
 
 // Returns the numbers of the lines to show: those with changed bytes, and the first ones, at most 16 in all.
-function lines_of(region, size, is_changed) {
-  const count = Math.ceil(size / DUMP_LINE), all = [...Array(count).keys()];
-  const is_hot = (line) => [...Array(DUMP_LINE).keys()].some((k) => is_changed(region, line * DUMP_LINE + k));
-  const hot = count > MOST_LINES ? all.filter(is_hot).slice(0, MOST_LINES) : [], rest = all.slice(0, MOST_LINES - hot.length);
-  return [...new Set([...hot, ...rest])].sort((one, other) => one - other);
+function lines_of(runs, region, size_of_region) {
+  const count = Math.ceil(size_of_region / DUMP_LINE), lines = new Set();
+  for (const it of runs.filter((changed) => changed.region === region)) {
+    for (let line = line_of(it.first); line <= line_of(it.last) && line < count && lines.size < MOST_LINES - 2; line += 1) lines.add(line);
+  }
+  for (let line = 0; line < count && lines.size < MOST_LINES; line += 1) lines.add(line);
+  return [...lines].sort((one, other) => one - other);
 }
 
-function file_html(state, {name}, is_changed) {
-  const size = number_at(state, `len ${name}`), durable = number_at(state, `dlen ${name}`), out = [];
-  const same = size === durable && hex_of(state.regions.get(`file ${name}`).subarray(0, size)) === hex_of(state.regions.get(`durable ${name}`).subarray(0, size));
+const are_equal = (one, other) => one.length === other.length && one.every((byte, k) => byte === other[k]);
+
+function contents_html(bytes, region, runs) {
+  const lines = lines_of(runs, region, bytes.length), more = Math.ceil(bytes.length / DUMP_LINE) - lines.length;
+  return dump(bytes, lines, (index) => has_byte(runs, region, index)) + (more > 0 ? paragraph(`and ${more} more lines`, 'faint') : '');
+}
+
+function file_html(state, {name}, runs) {
+  const bytes = state.regions.get(`file ${name}`).subarray(0, number_at(state, `len ${name}`));
+  const durable = state.regions.get(`durable ${name}`).subarray(0, number_at(state, `dlen ${name}`));
   const positions = run.descriptors.map((it, k) => [it, k + 3]).filter(([it]) => it === name)
     .map(([, fd]) => `descriptor ${fd}${shown(state, `open ${fd}`) === '1' ? '' : ' closed'} at ${shown(state, `pos ${fd}`)}`);
-  out.push(paragraph([`${name}: ${size} bytes, ${same ? 'all durable' : `${durable} durable, not the same`}`, ...positions].join('; ')));
-  for (const [kind, length] of [['file', size], ...(same ? [] : [['durable', durable]])]) {
-    const region = `${kind} ${name}`, bytes = state.regions.get(region).subarray(0, length);
-    if (!same) out.push(paragraph(kind, 'faint'));
-    out.push(dump(bytes, region, lines_of(region, length, is_changed), is_changed));
-    if (length > MOST_LINES * DUMP_LINE) out.push(paragraph(`${Math.ceil(length / DUMP_LINE)} lines, of which ${MOST_LINES} are shown`, 'faint'));
-  }
+  const is_durable = are_equal(bytes, durable), kept = is_durable ? 'all durable' : `not all durable (${durable.length} bytes)`;
+  const out = [paragraph([`${name}: ${bytes.length} bytes, ${kept}`, ...positions].join('; ')), contents_html(bytes, `file ${name}`, runs)];
+  if (!is_durable) out.push(paragraph('durable:', 'faint'), contents_html(durable, `durable ${name}`, runs));
   return out.join('');
 }
 
-function pipe_html(state, {name, capacity}, is_changed) {
+function pipe_html(state, {name, capacity}, runs) {
   const put_count = number_at(state, `put ${name}`), taken = number_at(state, `taken ${name}`), region = `pipe ${name}`;
   const held = put_count - taken, bytes = new Uint8Array(Math.min(held, MOST_LINES * DUMP_LINE)), all = state.regions.get(region);
   for (let k = 0; k < bytes.length; k += 1) bytes[k] = all[(taken + k) % capacity];
-  const is_held_changed = (it, k) => is_changed(it, (taken + k) % capacity);
+  const is_changed = (k) => has_byte(runs, region, (taken + k) % capacity);
   return paragraph(`${name}: ${held} of ${capacity} bytes, put ${put_count}, taken ${taken}`)
-    + (held ? dump(bytes, region, [...Array(Math.ceil(bytes.length / DUMP_LINE)).keys()], is_held_changed) : '');
+    + (held ? dump(bytes, [...Array(Math.ceil(bytes.length / DUMP_LINE)).keys()], is_changed) : '');
 }
 
-function objects_html(state, is_changed) {
+function objects_html(state, runs) {
   const parts = run.objects.map((object) => {
-    if (object.kind === 'file') return file_html(state, object, is_changed);
-    if (object.kind === 'pipe') return pipe_html(state, object, is_changed);
+    if (object.kind === 'file') return file_html(state, object, runs);
+    if (object.kind === 'pipe') return pipe_html(state, object, runs);
     return paragraph(`${object.name}: counter ${shown(state, `event ${object.name}`)}`);
   });
   return parts.length ? heading('Files, pipes and eventfds') + parts.join('') : '';
 }
 
 // Returns the lines of memory around the buffers and times of rows that have not completed, and around what changed.
-function memory_lines(state, is_changed, step) {
+function memory_lines(state, runs) {
   const lines = new Set();
-  const add = (first, size) => {
-    for (let line = Math.floor(first / DUMP_LINE); line <= Math.floor((first + Math.max(1, size) - 1) / DUMP_LINE); line += 1) {
+  const add = (first, count) => {
+    for (let line = line_of(first); line <= line_of(first + Math.max(1, count) - 1); line += 1) {
       if (line >= 0 && line < REGION_SIZE / DUMP_LINE && lines.size < 2 * MOST_LINES) lines.add(line);
     }
   };
+  for (const it of runs.filter((changed) => changed.region === 'mem')) add(it.first, Math.min(256, it.last - it.first + 1));
   for (const row of rows_alive(run, state.moment)) {
     if (row.op === READ || row.op === WRITE) add(Number(row.addr), row.len);
     if (row.op === TIMEOUT || row.op === LINK_TIMEOUT) add(Number(row.addr), 16);
   }
-  for (const [place] of step ? step.changes : []) {
-    const bytes = bytes_at(place);
-    if (bytes && bytes.region === 'mem') add(bytes.first, bytes.last - bytes.first + 1);
-  }
   return [...lines].sort((one, other) => one - other);
 }
 
-function memory_html(state, is_changed, step) {
-  const lines = memory_lines(state, is_changed, step);
+function memory_html(state, runs) {
+  const lines = memory_lines(state, runs), is_changed = (index) => has_byte(runs, 'mem', index);
   return heading('Memory around the buffers in use')
-    + (lines.length ? dump(state.regions.get('mem'), 'mem', lines, is_changed) : paragraph('none in use', 'faint'));
+    + (lines.length ? dump(state.regions.get('mem'), lines, is_changed) : paragraph('none in use', 'faint'));
 }
 
 // ---- the whole panel
@@ -247,10 +246,10 @@ function here_html(next) {
 
 function show_panel() {
   go_to(run, now_state, view.moment);
-  const next = steps[view.moment - from], before = steps[view.moment - 1 - from], is_changed = changed_by(before);
+  const next = steps[view.moment - from], runs = changed_runs(steps[view.moment - 1 - from]);
   by_id('state').innerHTML = [
     here_html(next), changes_html(next, 'What this event changes'), rings_html(now_state), threads_html(now_state), rows_html(now_state),
-    objects_html(now_state, is_changed), memory_html(now_state, is_changed, before),
+    objects_html(now_state, runs), memory_html(now_state, runs),
   ].join('');
   by_id('raw').setAttribute('aria-pressed', view.raw);
   show_findings();

@@ -55,22 +55,36 @@ function shortened(place, value) {
 
 function mark(step, y) {
   const x = round(x_of(step.index) + view.column / 2), r = round(within(1, view.column / 3 - 1, 4.5));
-  const shape = view.column < 5 ? 'thin' : shape_of(step), hollow = shape === 'round' && step.word !== 'sleep';
+  const shape = shape_of(step), hollow = shape === 'round' && step.word !== 'sleep';
   const kinds = [hollow ? 'hollow' : 'mark', view.is_found.has(step.index) ? 'found' : ''].join(' ').trim();
-  return element('path', {class: kinds, d: SHAPES[shape](x, y, r)}, view.column < 5 ? '' : step_title(step));
+  return element('path', {class: kinds, d: SHAPES[shape](x, y, r)}, step_title(step));
 }
 
-// Returns the marks of the events in view. Where columns are narrower than two pixels, marks at one pixel are one.
-function marks(place, low, high, a, b) {
-  const out = [], drawn = new Map();
-  for (const step of steps.slice(low - from, high - from + 1)) {
-    const k = place.index.get(step.key);
-    if (k === undefined || k < a || k > b) continue;
-    const pixel = Math.round(x_of(step.index) / 2);
-    if (view.column < 2 && drawn.get(k) === pixel) continue;
-    drawn.set(k, pixel);
-    out.push(mark(step, place.y_of(k) + place.lanes[k].height / 2 + (step.key === 'clock' ? 7 : 0)));
+// Calls a function with each event in view of the lanes from `a` to `b`, the number of its lane, and its y.
+function each_event(place, a, b, call) {
+  for (let i = place.low - from; i < Math.min(steps.length, place.high - from + 1); i += 1) {
+    const k = place.index.get(steps[i].key);
+    if (k >= a && k <= b) call(steps[i], k, place.y_of(k) + place.lanes[k].height / 2 + (steps[i].key === 'clock' ? 7 : 0));
   }
+}
+
+// Returns the marks of events in narrow columns: bars, of which those at one pixel are one.
+function thin_marks(place, a, b) {
+  const paths = {mark: [], found: []}, drawn = new Map();
+  each_event(place, a, b, (step, k, y) => {
+    const x = Math.round(x_of(step.index) + view.column / 2), is_found = view.is_found.has(step.index);
+    if (drawn.get(k) === x && !is_found) return;
+    drawn.set(k, x);
+    paths[is_found ? 'found' : 'mark'].push(SHAPES.thin(x, y));
+  });
+  return Object.keys(paths).map((kind) => element('path', {class: `mark ${kind}`, d: paths[kind].join('')})).join('');
+}
+
+// Returns the marks of the events in view.
+function marks(place, a, b) {
+  if (view.column < 5) return thin_marks(place, a, b);
+  const out = [];
+  each_event(place, a, b, (step, k, y) => out.push(mark(step, y)));
   return out.join('');
 }
 
@@ -216,7 +230,8 @@ function lane_body(lane, y, low, high) {
 function lane_label(lane, k, y) {
   const width = labels_width(), out = [rect(k % 2 ? 'band' : 'cover', 0, y, width, lane.height)];
   const weight = lane.key === view.lane ? 700 : 400;
-  const label = 7 * lane.label.length > width && lane.part !== undefined ? lane.label.replace('submission', 'sub').replace('completion', 'com') : lane.label;
+  const most = Math.floor((width - 8) / 7), short = lane.label.replace('submission', 'sub').replace('completion', 'com');
+  const whole = lane.label.length > most ? short : lane.label, label = whole.length > most ? `${whole.slice(0, most - 2)}..` : whole;
   out.push(element('text', {x: 8, y: y + lane.height / 2 + 4, 'font-weight': weight}, plain(label)));
   if (lane.part !== undefined && width > 150) out.push(small(width - 6, y + 13, lane.most, 'end'));
   if (lane.row && 7 * lane.label.length + 6 * lane.row.user.length < width - 36) out.push(small(width - 6, y + 15, `ud ${lane.row.user}`, 'end'));
@@ -226,12 +241,12 @@ function lane_label(lane, k, y) {
 // ---- the whole picture
 
 // Returns which part of the picture is in view. The upper lanes do not scroll if they fill at most half of its height.
-function frame() {
-  const place = layout(), width = main.clientWidth, height = main.clientHeight, pinned = place.head_height <= height / 2;
+function frame(place) {
+  const width = size.width, height = size.height, pinned = place.head_height <= height / 2;
   const low = within(from, Math.floor(view.left), to), high = within(low, Math.ceil(last_moment()), to);
-  const shift = pinned ? 0 : main.scrollTop, top = pinned ? place.head_height : AXIS;
-  const y_of = (k) => place.lanes[k].top - (k < place.head_count ? shift : main.scrollTop);
-  const row_at = (y) => place.head_count + Math.floor((y + main.scrollTop - place.head_height) / ROW);
+  const shift = pinned ? 0 : size.top, top = pinned ? place.head_height : AXIS;
+  const y_of = (k) => place.lanes[k].top - (k < place.head_count ? shift : size.top);
+  const row_at = (y) => place.head_count + Math.floor((y + size.top - place.head_height) / ROW);
   const first = Math.max(place.head_count, row_at(top)), last = Math.min(place.lanes.length - 1, row_at(height));
   return Object.assign(place, {width, pinned, low, high, shift, visible: height, view_top: top, y_of, first, last});
 }
@@ -247,15 +262,15 @@ function lanes_drawn(place, a, b) {
     if (lane.key === view.lane) labels.push(rect('chosen', 1, y, place.width - 2, lane.height));
   }
   if (a >= place.head_count && a <= b) bodies.push(ties(place, a, b));
-  bodies.push(marks(place, place.low, place.high, a, b));
+  bodies.push(marks(place, a, b));
   return plot(bodies.join('')) + labels.join('');
 }
 const plot = (inner) => element('g', {'clip-path': 'url(#plot)'}, inner);
 
 function folded_note(place) {
   if (!place.folded) return '';
-  const y = place.height - 6 - main.scrollTop, noun = place.folded === 1 ? 'row' : 'rows';
-  return element('text', {class: 'small folded', x: 8, y}, `${place.folded} ${noun} not in view`);
+  const y = place.height - 6 - size.top, noun = place.folded === 1 ? 'lane' : 'lanes';
+  return element('text', {class: 'small folded', x: 8, y}, `${place.folded} ${noun} with nothing in view`);
 }
 
 function definitions(place) {
@@ -265,9 +280,7 @@ function definitions(place) {
 }
 
 function draw() {
-  const before = layout();
-  room.style.height = `${Math.max(before.height, main.clientHeight)}px`;
-  const place = frame(), {width, visible, view_top, head_height} = place, line = head_height - 3 - place.shift;
+  const place = frame(layout()), {width, visible, view_top, head_height} = place, line = head_height - 3 - place.shift;
   const box = {x: 0, y: view_top, width, height: Math.max(1, visible - view_top), viewBox: `0 ${view_top} ${width} ${Math.max(1, visible - view_top)}`};
   picture.setAttribute('width', width);
   picture.setAttribute('height', visible);
@@ -279,29 +292,40 @@ function draw() {
       + element('line', {class: 'lane', x1: 0, x2: width, y1: line, y2: line}))
     + plot(here) + rect('cover', 0, 0, width, AXIS) + plot(axis(place.low, place.high)) + small(8, AXIS - 8, 'moment')
     + element('line', {class: 'lane', x1: labels_width(), x2: labels_width(), y1: 0, y2: visible});
-  draw_overview();
+  draw_window();
 }
 
 // ---- the strip that shows the whole run
 
 const STRIP = 40;
-const overview_x = (moment) => (moment - from) * overview.clientWidth / Math.max(1, to - from);
+let strip_width = 0;
+const overview_x = (moment) => (moment - from) * strip_width / Math.max(1, to - from);
 
+// Draws what does not move: how many rows have not completed, and the findings.
 function draw_overview() {
-  const width = overview.clientWidth, most = alive_counts.reduce((highest, it) => Math.max(highest, it), 1);
-  const points = [[0, STRIP]], apart = Math.max(1, Math.floor((to - from) / Math.max(1, width)));
+  strip_width = overview.clientWidth;
+  const most = alive_counts.reduce((highest, it) => Math.max(highest, it), 1), points = [[0, STRIP]];
+  const apart = Math.max(1, Math.floor((to - from) / Math.max(1, strip_width)));
   for (let m = from; m <= to; m += apart) {
     let highest = 0;
     for (let k = m; k < m + apart && k <= to; k += 1) highest = Math.max(highest, alive_counts[k - from]);
     const top = STRIP - (STRIP - 18) * highest / most;
     points.push([overview_x(m), top], [overview_x(Math.min(to, m + apart)), top]);
   }
-  points.push([width, STRIP]);
-  const text = points.map(([x, y]) => `${round(x)},${round(y)}`).join(' '), x = overview_x(Math.max(from, view.left));
-  const end = overview_x(Math.min(to, last_moment()));
+  points.push([strip_width, STRIP]);
+  const text = points.map(([x, y]) => `${round(x)},${round(y)}`).join(' ');
+  const groups = finding_groups(overview_x, from, to).map(({x, all}) => finding_mark({x: within(6, x, strip_width - 6), all}, 2));
   overview.innerHTML = element('polygon', {class: 'graph', points: text}, titled('rows that have not completed'))
-    + rect('window', x, 1, Math.max(4, end - x), STRIP - 2)
-    + element('line', {class: 'here', x1: overview_x(view.moment), x2: overview_x(view.moment), y1: 0, y2: STRIP})
-    + finding_groups(overview_x, from, to).map((it) => finding_mark({x: within(6, it.x, width - 6), all: it.all}, 2)).join('');
+    + element('rect', {class: 'window', id: 'part', y: 1, height: STRIP - 2})
+    + element('line', {class: 'here', id: 'here', y1: 0, y2: STRIP}) + groups.join('');
+}
+
+// Moves the marks of the part in view and of the moment.
+function draw_window() {
+  const x = overview_x(Math.max(from, view.left)), end = overview_x(Math.min(to, last_moment())), at = round(overview_x(view.moment));
+  by_id('part').setAttribute('x', round(x));
+  by_id('part').setAttribute('width', round(Math.max(4, end - x)));
+  by_id('here').setAttribute('x1', at);
+  by_id('here').setAttribute('x2', at);
 }
 "##;

@@ -4,13 +4,13 @@
 pub(crate) const TEXT: &str = r##":root {
   color-scheme: light dark;
   --back: #ffffff; --ink: #1a1a1a; --faint: #595959; --line: #d8d8d8; --band: #f3f4f6; --pick: #1a1a1a;
-  --good: #009e73; --short: #e69f00; --bad: #b23c00; --canceled: #cc79a7; --expired: #56b4e9; --open: #8a8a8a;
+  --good: #009e73; --short: #c98500; --bad: #a83200; --canceled: #c86a9d; --expired: #2e93d6; --open: #5f5f5f;
   --fill: #0072b2; --on_fill: #ffffff; --link: #595959; --mark: #ffe08a; --mark_ink: #1a1a1a;
 }
 @media (prefers-color-scheme: dark) {
   :root {
     --back: #141518; --ink: #ececec; --faint: #adadad; --line: #3b3d42; --band: #1d1f23; --pick: #ffffff;
-    --bad: #ff7a3d; --open: #7d7d7d; --fill: #56b4e9; --on_fill: #0b0c0e; --link: #adadad; --mark: #6b5200; --mark_ink: #ffffff;
+    --short: #e69f00; --bad: #ff7a3d; --canceled: #cc79a7; --expired: #56b4e9; --open: #6a6a6a; --fill: #56b4e9; --on_fill: #0b0c0e; --link: #adadad; --mark: #6b5200; --mark_ink: #ffffff;
   }
 }
 * { box-sizing: border-box; }
@@ -29,25 +29,27 @@ ul, ol { margin: 0; padding-left: 1.1rem; }
 form { display: inline-flex; flex-wrap: wrap; gap: .3rem; align-items: center; }
 input, button, select { font: inherit; color: inherit; background: var(--band); border: 1px solid var(--faint); border-radius: 4px; padding: .1rem .5rem; max-width: 100%; }
 input[type=number] { width: 6rem; }
+input[type=search] { width: 20rem; }
 button[aria-pressed=true] { background: var(--fill); color: var(--on_fill); }
 #key { flex-basis: auto; }
 #key[open] { flex-basis: 100%; max-height: 40vh; overflow: auto; }
 #legend span { white-space: nowrap; margin-right: .8rem; }
 #legend svg { vertical-align: -3px; margin-right: .3em; }
 #overview { display: block; width: 100%; height: 40px; cursor: pointer; touch-action: none; }
-main { position: relative; overflow: hidden auto; outline-offset: -3px; }
-main:focus-visible, button:focus-visible, input:focus-visible, select:focus-visible, #state:focus-visible, summary:focus-visible { outline: 3px solid var(--fill); }
+main { position: relative; overflow: hidden auto; border: 2px solid transparent; }
+main:focus-visible { border-color: var(--fill); outline: none; }
+button:focus-visible, input:focus-visible, select:focus-visible, #state:focus-visible, summary:focus-visible { outline: 3px solid var(--fill); }
 #picture { position: sticky; left: 0; top: 0; display: block; user-select: none; touch-action: none; cursor: grab; }
 aside { display: flex; flex-direction: column; min-height: 0; min-width: 0; border-left: 1px solid var(--line); }
 #findings { flex: 0 1 auto; max-height: 34%; overflow: auto; padding: .4rem .6rem; border-bottom: 1px solid var(--line); }
 #findings ol { list-style: none; padding: 0; }
 .finding { display: block; width: 100%; text-align: left; border: 0; border-left: 4px solid var(--faint); border-radius: 0; padding: .15rem .5rem; margin-bottom: .25rem; cursor: pointer; }
 .finding .text { display: block; }
-.is_fault { border-left-color: var(--bad); }
 .finding[aria-current=true] { outline: 2px solid var(--fill); outline-offset: -2px; }
 .finding:not([aria-current=true]) .text { overflow: hidden; display: -webkit-box; -webkit-line-clamp: 2; -webkit-box-orient: vertical; }
 #state { flex: 1 1 0; overflow: auto; padding: .5rem .9rem 1.5rem; min-height: 0; }
 .here { border-left: 4px solid var(--faint); padding-left: .5rem; }
+.finding.is_fault, .here.is_fault { border-left-color: var(--bad); }
 .rings { display: flex; flex-wrap: wrap; gap: .5rem; }
 figure { margin: 0; }
 figcaption { text-align: center; font-size: 12.5px; line-height: 1.3; }
@@ -63,10 +65,11 @@ button.row { padding: 0 .35rem; cursor: pointer; }
 kbd { border: 1px solid var(--faint); border-radius: 3px; padding: 0 .3em; font: 12px ui-monospace, monospace; }
 .faint { color: var(--faint); }
 @media (max-width: 60rem) {
-  body { grid-template: auto minmax(9rem, 1fr) minmax(0, 46%) / minmax(0, 1fr); }
+  html, body { height: auto; }
+  body { grid-template: auto 50vh auto / minmax(0, 1fr); }
   aside { border-left: 0; border-top: 1px solid var(--line); }
-  header { max-height: 45vh; overflow: auto; }
-  #findings { max-height: 40%; }
+  #findings { max-height: 32vh; }
+  #state { overflow: visible; }
 }
 svg text { fill: var(--ink); font: 12px system-ui, sans-serif; }
 svg .small { font-size: 11px; fill: var(--faint); }
