@@ -142,9 +142,10 @@ function dump(bytes, lines, is_changed) {
   return element('pre', {class: 'dump'}, lines.map((line) => {
     const start = line * DUMP_LINE, all = Array.from(bytes.subarray(start, Math.min(bytes.length, start + DUMP_LINE)));
     const marked = (text, k) => (is_changed(start + k) ? element('mark', {}, plain(text)) : plain(text));
-    const hex = all.map((byte, k) => marked(byte.toString(16).padStart(2, '0'), k)).join(' ');
+    const hex = all.map((byte, k) => (k && k % 4 === 0 ? ' ' : '') + marked(byte.toString(16).padStart(2, '0'), k)).join('');
+    const width = (count) => 2 * count + Math.max(0, Math.ceil(count / 4) - 1);
     const text = all.map((byte, k) => marked(text_of([byte]), k)).join('');
-    return `<span class="faint">${String(start).padStart(5)}</span>  ${hex}${'   '.repeat(DUMP_LINE - all.length)}  ${text}`;
+    return `<span class="faint">${String(start).padStart(5)}</span>  ${hex}${' '.repeat(width(DUMP_LINE) - width(all.length))}  ${text}`;
   }).join('\n'));
 }
 
@@ -172,7 +173,7 @@ function file_html(state, {name}, runs) {
     .map(([, fd]) => `descriptor ${fd}${shown(state, `open ${fd}`) === '1' ? '' : ' closed'} at ${shown(state, `pos ${fd}`)}`);
   const is_durable = are_equal(bytes, durable), kept = is_durable ? 'all durable' : `not all durable (${durable.length} bytes)`;
   const out = [paragraph([`${name}: ${bytes.length} bytes, ${kept}`, ...positions].join('; ')), contents_html(bytes, `file ${name}`, runs)];
-  if (!is_durable) out.push(paragraph('durable:', 'faint'), contents_html(durable, `durable ${name}`, runs));
+  if (!is_durable && durable.length) out.push(paragraph('durable:', 'faint'), contents_html(durable, `durable ${name}`, runs));
   return out.join('');
 }
 

@@ -60,7 +60,7 @@ th { font-weight: 600; color: var(--faint); }
 code { font: 12.5px ui-monospace, monospace; overflow-wrap: anywhere; }
 code.raw { display: block; color: var(--faint); }
 button.row { padding: 0 .35rem; cursor: pointer; }
-.dump { margin: .2rem 0; font: 12px/1.35 ui-monospace, monospace; overflow-x: auto; }
+.dump { margin: .2rem 0; font: 11.5px/1.35 ui-monospace, monospace; overflow-x: auto; }
 .dump mark { background: var(--mark); color: var(--mark_ink); font-weight: 700; }
 kbd { border: 1px solid var(--faint); border-radius: 3px; padding: 0 .3em; font: 12px ui-monospace, monospace; }
 .faint { color: var(--faint); }
