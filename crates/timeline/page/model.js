@@ -243,7 +243,7 @@ function waits_for(drawn, rows, state, row) {
 
 // ---- search
 
-// Returns whether a change is of a place, or of bytes that include it.
+// Returns whether a change has this place, or bytes that include it.
 function changes_place([place], wanted) {
   if (place === wanted) return true;
   const bytes = bytes_at(place), other = bytes_at(wanted);

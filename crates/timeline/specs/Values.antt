@@ -73,21 +73,31 @@ lone_places =
     SubmissionHead ∷ SubmissionTail ∷ SubmissionFlags ∷ SubmissionDropped ∷ CompletionHead
     ∷ CompletionTail ∷ BacklogFront ∷ Clock ∷ Counted ∷ PollerStage ∷ []
 
--- The places with an index that are no bytes.
-abbrev pub places_at : ℕ → List Place
-places_at i =
+-- The places that a setup has with this index, other than bytes. No such index is 8,192 or more.
+abbrev pub fixed_places_at : ℕ → List Place
+fixed_places_at i =
     Array i ∷ Slot i ∷ Completion i ∷ FileLength i ∷ DurableLength i ∷ Position i ∷ OpenMark i
-    ∷ PutCount i ∷ TakenCount i ∷ EventCount i ∷ Request i ∷ Backlog i ∷ ProgramCounter i
-    ∷ ThreadStage i ∷ Last i ∷ Got i ∷ []
+    ∷ PutCount i ∷ TakenCount i ∷ EventCount i ∷ ProgramCounter i ∷ ThreadStage i ∷ Last i ∷ Got i
+    ∷ []
+
+-- The places that a run adds with this index.
+abbrev pub added_places_at : ℕ → List Place
+added_places_at i = Request i ∷ Backlog i ∷ []
 
 -- The values of places, in their order.
 abbrev pub values_of : Setup → View → List Place → List (List (List ℕ))
 values_of s v ps = flat_map (λ p. value_listed s p (v p)) ps
 
 -- The values of places with an index below n.
-abbrev pub values_below : Setup → View → ℕ → List (List (List ℕ))
-values_below s v zero = []
-values_below s v (suc n) = values_below s v n ++ values_of s v (places_at n)
+abbrev pub values_below : Setup → View → (ℕ → List Place) → ℕ → List (List (List ℕ))
+values_below s v places zero = []
+values_below s v places (suc n) = values_below s v places n ++ values_of s v (places n)
+
+-- The values of all places that are no bytes.
+abbrev pub all_values : Setup → View → List (List (List ℕ))
+all_values s v =
+    values_of s v lone_places ++ values_below s v fixed_places_at 8192
+    ++ values_below s v added_places_at 65536
 
 -- The bytes of a region below index n.
 abbrev pub bytes_below : View → Region → ℕ → List ℕ
@@ -105,5 +115,5 @@ pub record IsRegionPart (s : Setup) (v : View) (x : ValuePart) : Type 0 where
 
 -- The values at a moment: those of all places that are no bytes, and regions of bytes.
 pub record AreValues (s : Setup) (v : View) (values regions : List ValuePart) : Type 0 where
-  pub values : map value_texts values ≡ values_of s v lone_places ++ values_below s v 65536
+  pub values : map value_texts values ≡ all_values s v
   pub regions : All (IsRegionPart s v) regions

@@ -6,18 +6,21 @@ ghost use Rattle.base64.specs.GeneralPurpose.{encode_of};
 ghost use Rattle.base64.specs.Engines.{standard};
 ghost use Rattle.scenario.specs.PlaceTexts.{place_text};
 ghost use Rattle.machine.specs.Whole.{view};
-ghost use Rattle.timeline.specs.Values.{value_texts, value_listed, lone_places, places_at, values_of, values_below, bytes_below, IsRegionPart, AreValues};
+ghost use Rattle.timeline.specs.Values.{value_texts, value_listed, fixed_places_at, added_places_at, values_of, values_below, all_values, bytes_below, IsRegionPart, AreValues};
 
 use crate::changes::{add_byte, value_string};
 use crate::parts::ValuePart;
 use base64::engine::general_purpose::STANDARD;
 use machine::{Setup, State};
-use places::{Place, Region, Value};
+use places::{Contents, Place, Region, Value};
 use scenario::put_place;
 use std::alloc::{AllocError, Global};
 
-/// One more than the largest index of a place.
+/// One more than the largest index of a byte, of a request or of an overflowed completion.
 const INDEXES: u32 = 65536;
+
+/// One more than the largest index of any other place: that of a completion ring's last slot.
+const FIXED_INDEXES: u32 = 8192;
 
 /// The places of a state that have no index, and are no bytes.
 const LONE: [Place; 10] = [
@@ -89,9 +92,9 @@ fn add_values(
     Ok(())
 }
 
-// Returns the places with this index that are no bytes.
-fn places_at(index: u32) -> [Place; 16]
-    ensures { result ≡ places_at index }
+// Returns the places that a setup has with this index, other than bytes.
+fn fixed_places_at(index: u32) -> [Place; 14]
+    ensures { result ≡ fixed_places_at index }
 {
     [
         Place::Array(index),
@@ -104,8 +107,6 @@ fn places_at(index: u32) -> [Place; 16]
         Place::PutCount(index),
         Place::TakenCount(index),
         Place::EventCount(index),
-        Place::Request(index),
-        Place::Backlog(index),
         Place::ProgramCounter(index),
         Place::ThreadStage(index),
         Place::Last(index),
@@ -113,17 +114,48 @@ fn places_at(index: u32) -> [Place; 16]
     ]
 }
 
+// Adds the values of the places of a setup that have an index and are no bytes.
+fn add_fixed_values(
+    alloc: Global,
+    out: &mut Vec<ValuePart>,
+    setup: &Setup,
+    state: &State,
+) -> Result<(), AllocError>
+    ensures { OnOk result (map value_texts out.new.items ≡ map value_texts out.old.items
+        ++ values_below setup.entry.now (view state.entry.now) fixed_places_at 8192) }
+{
+    for index in 0..FIXED_INDEXES {
+        add_values(alloc, out, setup, state, &fixed_places_at(index))?;
+    }
+    Ok(())
+}
+
+// Adds the values of the requests and of the overflowed completions.
+fn add_added_values(
+    alloc: Global,
+    out: &mut Vec<ValuePart>,
+    setup: &Setup,
+    state: &State,
+) -> Result<(), AllocError>
+    ensures { OnOk result (map value_texts out.new.items ≡ map value_texts out.old.items
+        ++ values_below setup.entry.now (view state.entry.now) added_places_at 65536) }
+{
+    for index in 0..INDEXES {
+        let places = [Place::Request(index), Place::Backlog(index)];
+        add_values(alloc, out, setup, state, &places)?;
+    }
+    Ok(())
+}
+
 // Returns the values of all places that are no bytes.
 fn values_of(alloc: Global, setup: &Setup, state: &State) -> Result<Vec<ValuePart>, AllocError>
     ensures { IfOk result (λ values. map value_texts values.items
-        ≡ values_of setup.now (view state.now) lone_places
-        ++ values_below setup.now (view state.now) 65536) }
+        ≡ all_values setup.now (view state.now)) }
 {
     let mut out = Vec::new(alloc);
     add_values(alloc, &mut out, setup, state, &LONE)?;
-    for index in 0..INDEXES {
-        add_values(alloc, &mut out, setup, state, &places_at(index))?;
-    }
+    add_fixed_values(alloc, &mut out, setup, state)?;
+    add_added_values(alloc, &mut out, setup, state)?;
     Ok(out)
 }
 
@@ -172,20 +204,26 @@ fn add_region(
     Ok(())
 }
 
-// Adds the bytes of an object.
+// Adds the bytes of an object. An eventfd has none.
 fn add_object(
     alloc: Global,
     out: &mut Vec<ValuePart>,
     setup: &Setup,
     state: &State,
-    object: u32,
+    number: u32,
+    contents: &Contents,
 ) -> Result<(), AllocError>
     requires { All (IsRegionPart setup.now (view state.now)) out.old.items }
     ensures { OnOk result (All (IsRegionPart setup.entry.now (view state.entry.now)) out.new.items) }
 {
-    add_region(alloc, out, setup, state, Region::File(object))?;
-    add_region(alloc, out, setup, state, Region::Durable(object))?;
-    add_region(alloc, out, setup, state, Region::Pipe(object))
+    match contents {
+        Contents::File(_) => {
+            add_region(alloc, out, setup, state, Region::File(number))?;
+            add_region(alloc, out, setup, state, Region::Durable(number))
+        }
+        Contents::Pipe(_) => add_region(alloc, out, setup, state, Region::Pipe(number)),
+        Contents::EventFd(_) => Ok(()),
+    }
 }
 
 // Returns the bytes of the memory and of all objects.
@@ -194,8 +232,15 @@ fn regions_of(alloc: Global, setup: &Setup, state: &State) -> Result<Vec<ValuePa
 {
     let mut out = Vec::new(alloc);
     add_region(alloc, &mut out, setup, state, Region::Memory)?;
-    for object in 0..setup.objects.len() as u32 {
-        add_object(alloc, &mut out, setup, state, object)?;
+    for (number, object) in setup.objects.as_slice().iter().enumerate() {
+        add_object(
+            alloc,
+            &mut out,
+            setup,
+            state,
+            number.min(31) as u32,
+            &object.contents,
+        )?;
     }
     Ok(out)
 }

@@ -294,7 +294,8 @@ main.addEventListener('scroll', () => {
 new ResizeObserver(() => {
   measure();
   draw_overview();
-  show();
+  keep_within();
+  redraw();
 }).observe(main);
 window.addEventListener('hashchange', () => pick(Number(location.hash.slice(1))));
 "##;

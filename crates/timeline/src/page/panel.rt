@@ -30,14 +30,15 @@ function findings_html() {
   }, `<b>${plain(it.kind)}</b> <span class="faint">at ${it.moment}, ${it.fault ? 'fault' : 'note'}</span><span class="text">${plain(it.text)}</span>`))).join(''));
 }
 
-// Marks the findings at the moment in the list, and brings the first of them into view.
+// Marks the findings at the moment in the list, and brings the first fault or note of them into view.
 let current = [];
 function show_findings() {
   const box = by_id('findings');
   for (const button of current) button.removeAttribute('aria-current');
   current = [...box.querySelectorAll(`[data-moment="${view.moment}"]`)];
   for (const button of current) button.setAttribute('aria-current', 'true');
-  if (current.length) box.scrollTop = current[0].offsetTop - box.offsetTop - 4;
+  const first = current.find((it) => it.classList.contains('is_fault')) || current[0];
+  if (first) box.scrollTop = first.offsetTop - box.offsetTop - 4;
 }
 
 // ---- rings
@@ -240,7 +241,7 @@ function changes_html(step, title) {
 
 function here_html(next) {
   const text = next ? `Moment ${view.moment}: before event ${view.moment}, ${next.does}` : `Moment ${view.moment}: the end of this part`;
-  const here = findings.filter((it) => it.moment === view.moment);
+  const here = findings.filter((it) => it.moment === view.moment).sort((one, other) => other.fault - one.fault);
   return element('h2', {}, plain(text)) + `<p class="faint">${code(`goto ${view.moment}`)} shows this state in a session.</p>`
     + here.map((it) => element('p', {class: `here ${it.fault ? 'is_fault' : 'is_note'}`}, `<b>${plain(it.kind)}</b> ${plain(it.text)}`)).join('');
 }
