@@ -1,5 +1,5 @@
-use Rattle.std.proofs.Common.{◌≡◌, ◌+◌, length, min, subst, arith}
-use Rattle.machine.specs.Whole.{view}
+use Rattle.std.proofs.Common.{◌≡◌, ◌+◌, length, min, ap, arith}
+use Rattle.run_log.specs.declared.range.EventRange.{EventRange}
 use Rattle.timeline.proofs.Opened.{opened_here, opened_before}
 use Rattle.timeline.proofs.opening.OpeningObserver.after.Goals as goal
 
@@ -8,13 +8,15 @@ returns-in_ok-self-clause-ok g c =
     let at = c.args.at in
     let t = c.if-moment-min.true in
     let m = c.min.ensures in
-    let a = c.requires.seen.0 in
-    (a, opened_here at.setup.now at.events.now at.index g.K.Ranged.range.from at.state.now _ c.requires.at.at (omega (arith, t, m, a)) c.in_ok-self.ensures)
+    let same = c.requires.seen.0 in
+    let a = ap (λ (r : EventRange). r.from) same in
+    (same, opened_here at.setup.now at.events.now at.index g.K.Ranged.range.from at.state.now _ c.requires.at.at (omega (arith, t, m, a)) c.in_ok-self.ensures)
 
 pub returns-else-moment-min-clause-ok : goal.returns-else-moment-min-clause-ok
 returns-else-moment-min-clause-ok g c =
     let at = c.args.at in
     let t = c.if-moment-min.false in
     let m = c.min.ensures in
-    let a = c.requires.seen.0 in
-    (a, opened_before at.setup.now at.events.now at.index g.K.Ranged.range.from _ c.requires.seen.1 (λ (q : at.index + 1 ≡ min g.K.Ranged.range.from (length at.events.now)). omega (arith, q, t, m, a)))
+    let same = c.requires.seen.0 in
+    let a = ap (λ (r : EventRange). r.from) same in
+    (same, opened_before at.setup.now at.events.now at.index g.K.Ranged.range.from _ c.requires.seen.1 (λ (q : at.index + 1 ≡ min g.K.Ranged.range.from (length at.events.now)). omega (arith, q, t, m, a)))
