@@ -73,7 +73,7 @@ lone_places =
     SubmissionHead ∷ SubmissionTail ∷ SubmissionFlags ∷ SubmissionDropped ∷ CompletionHead
     ∷ CompletionTail ∷ BacklogFront ∷ Clock ∷ Counted ∷ PollerStage ∷ []
 
--- The places that a setup has with this index, other than bytes. No such index is 8,192 or more.
+-- The places that a setup has with this index, other than bytes.
 abbrev pub fixed_places_at : ℕ → List Place
 fixed_places_at i =
     Array i ∷ Slot i ∷ Completion i ∷ FileLength i ∷ DurableLength i ∷ Position i ∷ OpenMark i
@@ -93,11 +93,12 @@ abbrev pub values_below : Setup → View → (ℕ → List Place) → ℕ → Li
 values_below s v places zero = []
 values_below s v places (suc n) = values_below s v places n ++ values_of s v (places n)
 
--- The values of all places that are no bytes.
-abbrev pub all_values : Setup → View → List (List (List ℕ))
-all_values s v =
-    values_of s v lone_places ++ values_below s v fixed_places_at 8192
-    ++ values_below s v added_places_at 65536
+-- The values of all places that are no bytes, of a setup's places with an index below n, and of a
+-- run's with one below k.
+abbrev pub all_values : Setup → View → ℕ → ℕ → List (List (List ℕ))
+all_values s v n k =
+    values_of s v lone_places ++ values_below s v fixed_places_at n
+    ++ values_below s v added_places_at k
 
 -- The bytes of a region below index n.
 abbrev pub bytes_below : View → Region → ℕ → List ℕ
@@ -108,12 +109,20 @@ bytes_below v g (suc n) = bytes_below v g n ++ byte_of (v (place_in g n))
 pub record IsRegionPart (s : Setup) (v : View) (x : ValuePart) : Type 0 where
   pub region : Region
   pub place : string_bytes x.0 ≡ utf8_lossy (place_text s (place_in region 0))
+  pub count : ℕ
+  pub most : count ≡ 65536
   pub bytes : List ℕ
   pub zeros : ℕ
-  pub whole : bytes_below v region 65536 ≡ bytes ++ replicate zeros 0
+  pub whole : bytes_below v region count ≡ bytes ++ replicate zeros 0
   pub text : string_bytes x.1 ≡ encode_of standard bytes
 
--- The values at a moment: those of all places that are no bytes, and regions of bytes.
-pub record AreValues (s : Setup) (v : View) (values regions : List ValuePart) : Type 0 where
-  pub values : map value_texts values ≡ all_values s v
-  pub regions : All (IsRegionPart s v) regions
+-- The values at a moment: those of all places that are no bytes, and regions of bytes. A setup's
+-- indexes are below 8,192, the size of the largest completion ring; a run's are below 65,536, the
+-- most requests.
+pub record AreValues (s : Setup) (v : View) (xs gs : List ValuePart) : Type 0 where
+  pub fixed : ℕ
+  pub added : ℕ
+  pub fixed_most : fixed ≡ 8192
+  pub added_most : added ≡ 65536
+  pub values : map value_texts xs ≡ all_values s v fixed added
+  pub regions : All (IsRegionPart s v) gs

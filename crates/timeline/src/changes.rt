@@ -4,7 +4,7 @@ ghost use Rattle.std.specs.List.{flat_map};
 ghost use Rattle.std.specs.Str.Lossy.{utf8_lossy};
 ghost use Rattle.base64.specs.GeneralPurpose.{encode_of};
 ghost use Rattle.base64.specs.Engines.{standard};
-ghost use Rattle.run_log.specs.Lines.{rows, value_shown};
+ghost use Rattle.run_log.specs.Lines.{row_place, rows, value_shown};
 ghost use Rattle.timeline.specs.Values.{is_byte, byte_of, olds_shown, news_shown, change_texts, change_shown};
 
 use crate::parts::ChangePart;

@@ -115,63 +115,75 @@ fn fixed_places_at(index: u32) -> [Place; 14]
 }
 
 // Adds the values of the places of a setup that have an index and are no bytes.
+#[tactic(auto, using(crate::proofs::Valued::values_more))]
 fn add_fixed_values(
     alloc: Global,
     out: &mut Vec<ValuePart>,
     setup: &Setup,
     state: &State,
+    count: u32,
 ) -> Result<(), AllocError>
     ensures { OnOk result (map value_texts out.new.items ≡ map value_texts out.old.items
-        ++ values_below setup.entry.now (view state.entry.now) fixed_places_at 8192) }
+        ++ values_below setup.entry.now (view state.entry.now) fixed_places_at count) }
 {
-    for index in 0..FIXED_INDEXES {
+    for index in 0..count {
         add_values(alloc, out, setup, state, &fixed_places_at(index))?;
     }
     Ok(())
 }
 
 // Adds the values of the requests and of the overflowed completions.
+#[tactic(auto, using(crate::proofs::Valued::values_more))]
 fn add_added_values(
     alloc: Global,
     out: &mut Vec<ValuePart>,
     setup: &Setup,
     state: &State,
+    count: u32,
 ) -> Result<(), AllocError>
     ensures { OnOk result (map value_texts out.new.items ≡ map value_texts out.old.items
-        ++ values_below setup.entry.now (view state.entry.now) added_places_at 65536) }
+        ++ values_below setup.entry.now (view state.entry.now) added_places_at count) }
 {
-    for index in 0..INDEXES {
+    for index in 0..count {
         let places = [Place::Request(index), Place::Backlog(index)];
         add_values(alloc, out, setup, state, &places)?;
     }
     Ok(())
 }
 
-// Returns the values of all places that are no bytes.
-fn values_of(alloc: Global, setup: &Setup, state: &State) -> Result<Vec<ValuePart>, AllocError>
+// Returns the values of all places that are no bytes, of a setup's places with an index below
+// `fixed`, and of a run's with one below `added`.
+fn values_of(
+    alloc: Global,
+    setup: &Setup,
+    state: &State,
+    fixed: u32,
+    added: u32,
+) -> Result<Vec<ValuePart>, AllocError>
     ensures { IfOk result (λ values. map value_texts values.items
-        ≡ all_values setup.now (view state.now)) }
+        ≡ all_values setup.now (view state.now) fixed added) }
 {
     let mut out = Vec::new(alloc);
     add_values(alloc, &mut out, setup, state, &LONE)?;
-    add_fixed_values(alloc, &mut out, setup, state)?;
-    add_added_values(alloc, &mut out, setup, state)?;
+    add_fixed_values(alloc, &mut out, setup, state, fixed)?;
+    add_added_values(alloc, &mut out, setup, state, added)?;
     Ok(out)
 }
 
-// Returns the bytes of a region.
-fn bytes_of(alloc: Global, state: &State, region: Region) -> Result<Vec<u8>, AllocError>
-    ensures { IfOk result (λ bytes. bytes.items
-        ≡ bytes_below (view state.now) region 65536) }
+// Returns the bytes of a region below an index.
+#[tactic(auto, using(crate::proofs::Valued::bytes_more))]
+fn bytes_of(alloc: Global, state: &State, region: Region, count: u32) -> Result<Vec<u8>, AllocError>
+    ensures { IfOk result (λ bytes. bytes.items ≡ bytes_below (view state.now) region count) }
 {
     let mut bytes = Vec::new(alloc);
-    for index in 0..INDEXES {
+    for index in 0..count {
         add_byte(&mut bytes, state.value(region.place(index)))?;
     }
     Ok(bytes)
 }
 
 // Returns bytes without the zeros at their end.
+#[tactic(auto, using(crate::proofs::Valued::zeros_more))]
 fn without_zeros(bytes: &[u8]) -> &[u8]
     ensures { (zeros : ℕ) × (bytes.entry.now ≡ result.now ++ replicate zeros 0) }
 {
@@ -183,6 +195,7 @@ fn without_zeros(bytes: &[u8]) -> &[u8]
 }
 
 // Adds the bytes of a region, unless they are zeros.
+#[tactic(auto, using(crate::proofs::Valued::regions_more))]
 fn add_region(
     alloc: Global,
     out: &mut Vec<ValuePart>,
@@ -193,7 +206,7 @@ fn add_region(
     requires { All (IsRegionPart setup.now (view state.now)) out.old.items }
     ensures { OnOk result (All (IsRegionPart setup.entry.now (view state.entry.now)) out.new.items) }
 {
-    let whole = bytes_of(alloc, state, region)?;
+    let whole = bytes_of(alloc, state, region, INDEXES)?;
     let bytes = without_zeros(whole.as_slice());
     if bytes.is_empty() {
         return Ok(());
@@ -247,12 +260,13 @@ fn regions_of(alloc: Global, setup: &Setup, state: &State) -> Result<Vec<ValuePa
 
 impl Values {
     /// Returns the values of a state.
+    #[tactic(auto, using(crate::proofs::Valued::are_values))]
     pub(crate) fn new(alloc: Global, setup: &Setup, state: &State) -> Result<Values, AllocError>
         ensures { IfOk result (λ x. AreValues setup.now (view state.now) x.values.items
             x.regions.items) }
     {
         Ok(Values {
-            values: values_of(alloc, setup, state)?,
+            values: values_of(alloc, setup, state, FIXED_INDEXES, INDEXES)?,
             regions: regions_of(alloc, setup, state)?,
         })
     }
