@@ -3,7 +3,7 @@ use Rattle.std.proofs.Common.{◌≡◌, ℕ, zero, suc, ◌+◌, refl, sym, ap,
 use Rattle.std.specs.Prelude.{replicate}
 use Rattle.std.specs.List.{All}
 use Rattle.std.specs.Str.Lossy.{utf8_lossy}
-use Rattle.std.proofs.lemmas.List.Elements.{All-append}
+use Rattle.std.proofs.lemmas.List.Elements.{All-push}
 use Rattle.base64.specs.GeneralPurpose.{encode_of}
 use Rattle.base64.specs.Engines.{standard}
 use Rattle.places.specs.declared.place.Place.{Place}
@@ -34,7 +34,7 @@ pub regions_more : (s : Setup) (v : View) (g : Region) (xs ys : List ValuePart) 
     → count ≡ 65536 → All (IsRegionPart s v) xs → ys ≡ xs ++ x ∷ [] → string_bytes x.0 ≡ utf8_lossy (place_text s (place_in g 0)) → string_bytes x.1 ≡ encode_of standard bytes
     → bytes_below v g count ≡ bytes ++ replicate z 0 → All (IsRegionPart s v) ys
 regions_more s v g xs ys x bytes z count most all e place text whole =
-    subst (All (IsRegionPart s v)) (sym e) (All-append (IsRegionPart s v) xs (x ∷ []) all (record { region = g; place = place; count = count; most = most; bytes = bytes; zeros = z; whole = whole; text = text }, tt))
+    subst (All (IsRegionPart s v)) (sym e) (All-push (IsRegionPart s v) xs x all (record { region = g; place = place; count = count; most = most; bytes = bytes; zeros = z; whole = whole; text = text }))
 
 -- The values of a moment.
 pub are_values : (s : Setup) (v : View) (fixed added : ℕ) (xs gs : List ValuePart) → fixed ≡ 8192 → added ≡ 65536 → map value_texts xs ≡ all_values s v fixed added → All (IsRegionPart s v) gs → AreValues s v xs gs

@@ -1,5 +1,5 @@
 //! The values of all places at the first moment of a page.
-ghost use Rattle.std.specs.Prelude.{◌≡◌, ◌++◌, ℕ, [], map, replicate, string_bytes, IfOk, OnOk};
+ghost use Rattle.std.specs.Prelude.{◌≡◌, ◌++◌, ◌∷◌, ◌+◌, ℕ, [], length, map, replicate, string_bytes, IfOk, OnOk, IfSome};
 ghost use Rattle.std.specs.List.{All};
 ghost use Rattle.std.specs.Str.Lossy.{utf8_lossy};
 ghost use Rattle.base64.specs.GeneralPurpose.{encode_of};
@@ -182,31 +182,42 @@ fn bytes_of(alloc: Global, state: &State, region: Region, count: u32) -> Result<
     Ok(bytes)
 }
 
+// Returns bytes without the zero at their end, or None if they don't end in one.
+fn without_zero(bytes: &[u8]) -> Option<&[u8]>
+    ensures zero { IfSome result (λ front. bytes.entry.now ≡ front.now ++ 0 ∷ []) }
+    ensures shorter { IfSome result (λ front. length front.now + 1 ≡ length bytes.entry.now) }
+{
+    match bytes.split_last() {
+        Some((last, front)) if *last == 0 => Some(front),
+        _ => None,
+    }
+}
+
 // Returns bytes without the zeros at their end.
-#[tactic(auto, using(crate::proofs::Valued::zeros_more))]
 fn without_zeros(bytes: &[u8]) -> &[u8]
     ensures { (zeros : ℕ) × (bytes.entry.now ≡ result.now ++ replicate zeros 0) }
 {
     let mut rest = bytes;
-    while let [front @ .., 0] = rest {
+    while let Some(front) = without_zero(rest) {
         rest = front;
     }
     rest
 }
 
 // Adds the bytes of a region, unless they are zeros.
-#[tactic(auto, using(crate::proofs::Valued::regions_more))]
 fn add_region(
     alloc: Global,
     out: &mut Vec<ValuePart>,
     setup: &Setup,
     state: &State,
     region: Region,
+    count: u32,
 ) -> Result<(), AllocError>
-    requires { All (IsRegionPart setup.now (view state.now)) out.old.items }
+    requires most { count ≡ 65536 }
+    requires regions { All (IsRegionPart setup.now (view state.now)) out.old.items }
     ensures { OnOk result (All (IsRegionPart setup.entry.now (view state.entry.now)) out.new.items) }
 {
-    let whole = bytes_of(alloc, state, region, INDEXES)?;
+    let whole = bytes_of(alloc, state, region, count)?;
     let bytes = without_zeros(whole.as_slice());
     if bytes.is_empty() {
         return Ok(());
@@ -225,34 +236,44 @@ fn add_object(
     state: &State,
     number: u32,
     contents: &Contents,
+    count: u32,
 ) -> Result<(), AllocError>
-    requires { All (IsRegionPart setup.now (view state.now)) out.old.items }
+    requires most { count ≡ 65536 }
+    requires regions { All (IsRegionPart setup.now (view state.now)) out.old.items }
     ensures { OnOk result (All (IsRegionPart setup.entry.now (view state.entry.now)) out.new.items) }
 {
     match contents {
         Contents::File(_) => {
-            add_region(alloc, out, setup, state, Region::File(number))?;
-            add_region(alloc, out, setup, state, Region::Durable(number))
+            add_region(alloc, out, setup, state, Region::File(number), count)?;
+            add_region(alloc, out, setup, state, Region::Durable(number), count)
         }
-        Contents::Pipe(_) => add_region(alloc, out, setup, state, Region::Pipe(number)),
+        Contents::Pipe(_) => add_region(alloc, out, setup, state, Region::Pipe(number), count),
         Contents::EventFd(_) => Ok(()),
     }
 }
 
-// Returns the bytes of the memory and of all objects.
-fn regions_of(alloc: Global, setup: &Setup, state: &State) -> Result<Vec<ValuePart>, AllocError>
+// Returns the bytes of the memory and of all objects, each region with `count` bytes at most.
+fn regions_of(
+    alloc: Global,
+    setup: &Setup,
+    state: &State,
+    count: u32,
+) -> Result<Vec<ValuePart>, AllocError>
+    requires { count ≡ 65536 }
     ensures { IfOk result (λ parts. All (IsRegionPart setup.now (view state.now)) parts.items) }
 {
     let mut out = Vec::new(alloc);
-    add_region(alloc, &mut out, setup, state, Region::Memory)?;
+    add_region(alloc, &mut out, setup, state, Region::Memory, count)?;
     for (number, object) in setup.objects.as_slice().iter().enumerate() {
+        let number = number.min(31) as u32;
         add_object(
             alloc,
             &mut out,
             setup,
             state,
-            number.min(31) as u32,
+            number,
             &object.contents,
+            count,
         )?;
     }
     Ok(out)
@@ -260,14 +281,12 @@ fn regions_of(alloc: Global, setup: &Setup, state: &State) -> Result<Vec<ValuePa
 
 impl Values {
     /// Returns the values of a state.
-    #[tactic(auto, using(crate::proofs::Valued::are_values))]
     pub(crate) fn new(alloc: Global, setup: &Setup, state: &State) -> Result<Values, AllocError>
         ensures { IfOk result (λ x. AreValues setup.now (view state.now) x.values.items
             x.regions.items) }
     {
-        Ok(Values {
-            values: values_of(alloc, setup, state, FIXED_INDEXES, INDEXES)?,
-            regions: regions_of(alloc, setup, state)?,
-        })
+        let values = values_of(alloc, setup, state, FIXED_INDEXES, INDEXES)?;
+        let regions = regions_of(alloc, setup, state, INDEXES)?;
+        Ok(Values { values, regions })
     }
 }
