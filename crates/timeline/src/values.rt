@@ -279,14 +279,31 @@ fn regions_of(
     Ok(out)
 }
 
+// Returns the values of a state, of a setup's places with an index below `fixed`, and of all others
+// with one below `added`.
+fn all_values_below(
+    alloc: Global,
+    setup: &Setup,
+    state: &State,
+    fixed: u32,
+    added: u32,
+) -> Result<Values, AllocError>
+    requires fixed { fixed ≡ 8192 }
+    requires added { added ≡ 65536 }
+    ensures { IfOk result (λ x. AreValues setup.now (view state.now) x.values.items
+        x.regions.items) }
+{
+    let values = values_of(alloc, setup, state, fixed, added)?;
+    let regions = regions_of(alloc, setup, state, added)?;
+    Ok(Values { values, regions })
+}
+
 impl Values {
     /// Returns the values of a state.
     pub(crate) fn new(alloc: Global, setup: &Setup, state: &State) -> Result<Values, AllocError>
         ensures { IfOk result (λ x. AreValues setup.now (view state.now) x.values.items
             x.regions.items) }
     {
-        let values = values_of(alloc, setup, state, FIXED_INDEXES, INDEXES)?;
-        let regions = regions_of(alloc, setup, state, INDEXES)?;
-        Ok(Values { values, regions })
+        all_values_below(alloc, setup, state, FIXED_INDEXES, INDEXES)
     }
 }
