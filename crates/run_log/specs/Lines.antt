@@ -66,6 +66,11 @@ end_text ds =
 abbrev pub values_text : List Changed → List ℕ
 values_text ds = codes " " ++ (olds_text ds ++ (codes " -> " ++ news_text ds))
 
+-- The place of a row: its first place, and the end of a row of bytes.
+abbrev pub row_place : Setup → List Changed → List ℕ
+row_place s [] = []
+row_place s (d ∷ ds) = place_text s d.place ++ end_text ds
+
 -- The text of a row: the first place, the end of a row of bytes, and the values.
 abbrev pub change_text : Setup → List Changed → List ℕ
 change_text s [] = []

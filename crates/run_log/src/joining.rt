@@ -49,7 +49,7 @@ fn following(first: &Changed, rest: &[Changed]) -> usize
 }
 
 /// Returns the number of changes on the first line: one change, or consecutive bytes.
-pub(crate) fn first_row(changes: &[Changed]) -> usize
+pub fn first_row(changes: &[Changed]) -> usize
     requires { 0 < length changes.now }
     ensures some { 0 < result }
     ensures within { result ≤ length changes.now }

@@ -9,6 +9,7 @@ mod logging;
 mod range;
 
 pub use changed::{Changed, changes_of};
-pub use line::change_lines;
+pub use joining::first_row;
+pub use line::{change_lines, row_place, value_shown};
 pub use logging::{log_events, log_run};
 pub use range::EventRange;

@@ -1,7 +1,7 @@
 //! Writes the lines of an event.
 ghost use Rattle.std.specs.Prelude.{◌≡◌, ◌<◌, ◌++◌, length, codes, map, IfOk, OnOk};
 ghost use Rattle.std.specs.List.{flat_map};
-ghost use Rattle.run_log.specs.Lines.{value_shown, olds_text, news_text, end_text, values_text, change_text, line_text, rows, event_lines};
+ghost use Rattle.run_log.specs.Lines.{value_shown, olds_text, news_text, end_text, values_text, row_place, change_text, line_text, rows, event_lines};
 ghost use Rattle.scenario.specs.PlaceTexts.{number_text};
 
 use crate::changed::Changed;
@@ -20,6 +20,15 @@ fn put_value(alloc: Global, out: &mut Vec<u8>, value: Option<Value>) -> Result<(
         Some(value) => out.extend_from_slice(value.text(alloc)?.as_slice()),
         None => out.extend_from_slice(b"absent"),
     }
+}
+
+/// Returns a value as the log prints it: as `show` does, or `absent`.
+pub fn value_shown(alloc: Global, value: Option<Value>) -> Result<Vec<u8>, AllocError>
+    ensures { IfOk result (λ text. text.items ≡ value_shown value) }
+{
+    let mut out = Vec::new(alloc);
+    put_value(alloc, &mut out, value)?;
+    Ok(out)
 }
 
 // Writes the old values of a line.
@@ -60,6 +69,18 @@ fn put_end(alloc: Global, out: &mut Vec<u8>, bytes: &[Changed]) -> Result<(), Al
         Some(number) => put_number(alloc, out, "..", number),
         None => Ok(()),
     }
+}
+
+/// Returns the place of a line: that of its single change, or of its consecutive bytes, such as `mem
+/// 0..1`.
+pub fn row_place(alloc: Global, setup: &Setup, row: &[Changed]) -> Result<Vec<u8>, AllocError>
+    requires { 0 < length row.now }
+    ensures { IfOk result (λ text. text.items ≡ row_place setup.now row.now) }
+{
+    let mut out = Vec::new(alloc);
+    put_place(alloc, &mut out, setup, row[0].place)?;
+    put_end(alloc, &mut out, &row[1..])?;
+    Ok(out)
 }
 
 // Writes the old and the new values of a line.

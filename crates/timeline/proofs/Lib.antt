@@ -1,1 +1,3 @@
-pub mod Stepping
+mod Opened
+mod Stepping
+mod Valued

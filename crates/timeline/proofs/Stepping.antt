@@ -18,12 +18,13 @@ use Rattle.run_log.specs.Listings.{IsListing}
 use Rattle.run_log.specs.Ranges.{has}
 use Rattle.timeline.specs.declared.parts.StepPart.{StepPart}
 use Rattle.timeline.specs.Steps.{shown_line, IsStep, StepsIf, AreSteps}
+use Rattle.timeline.specs.Values.{change_texts, change_shown}
 
 -- A collected event is right if its lines show the listing of its exact undo record.
 pub is_step : (s : Setup) (es : List Event) (i : ℕ) (e : Event) (past : List Change) (m : Machine) (listed : List Changed) (texts : List (List ℕ)) (x : StepPart)
     → IsAfter s es i e past m → NamesOnce past → IsListing (view m) past listed → texts ≡ map (change_text s) (rows listed)
-    → string_bytes x.event ≡ event_text e → map (λ text. string_bytes text) x.changes.items ≡ map shown_line texts → IsStep s es i x
-is_step s es i e past m listed texts x a once listing lines words shown = record {
+    → string_bytes x.event ≡ event_text e → map (λ text. string_bytes text) x.lines.items ≡ map shown_line texts → map change_texts x.changes.items ≡ map (change_shown s) (rows listed) → IsStep s es i x
+is_step s es i e past m listed texts x a once listing lines words shown changes = record {
   event = e;
   there = a.there;
   words = words;
@@ -32,6 +33,7 @@ is_step s es i e past m listed texts x a once listing lines words shown = record
   once = once;
   listed = listed;
   listing = subst (λ n. IsListing (view n) past listed) a.at.here listing;
+  changes = changes;
   lines = shown ∙ ap (map shown_line) lines ∙ map-map shown_line (change_text s) (rows listed);
 }
 

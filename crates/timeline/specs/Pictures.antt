@@ -1,9 +1,10 @@
 -- Which runs `timeline` draws, and what a picture shows of them.
-use Rattle.std.specs.Prelude.{◌≡◌, ℕ, ◌&&◌, ◌||◌, nat_lt, nat_eq, not, is_some, List, codes, length, Bool, true, false, if◌then◌else◌, Option, Some, None}
+use Rattle.std.specs.Prelude.{◌≡◌, ◌≤◌, ℕ, min, ◌&&◌, ◌||◌, nat_lt, nat_eq, not, is_some, List, codes, length, Bool, true, false, if◌then◌else◌, Option, Some, None}
 use Rattle.std.specs.List.{ends_with}
 use Rattle.scenario.specs.declared.event.Event.{Event}
 use Rattle.scenario.specs.declared.setup.Setup.{Setup}
-use Rattle.machine.specs.Runs.{start, Accepts, IsRefused}
+use Rattle.machine.specs.Whole.{view}
+use Rattle.machine.specs.Runs.{start, moment, Accepts, IsRefused}
 use Rattle.script.specs.Scripts.{Scenario}
 use Rattle.runs.specs.Reading.{Reads, IsUnread}
 use Rattle.runs.specs.declared.driving.Ended.{Ended}
@@ -22,7 +23,9 @@ use Rattle.timeline.specs.declared.drawing.Picture.{Picture}
 use Rattle.timeline.specs.declared.drawing.Picture.TheVariants.{Page, TraceEvents}
 use Rattle.timeline.specs.declared.drawing.Window.{Window}
 use Rattle.timeline.specs.declared.observing.Seen.{Seen}
+use Rattle.timeline.specs.declared.values.Values.{Values}
 use Rattle.timeline.specs.Steps.{AreSteps}
+use Rattle.timeline.specs.Values.{AreValues}
 
 -- The format of a picture, by the name of its file.
 abbrev pub picture_of : List ℕ → Option Picture
@@ -36,11 +39,19 @@ is_long count w = nat_lt 5000 count && (not (is_some w.from) || not (is_some w.t
 
 -- ---- one run
 
+-- The values at moment `at`, or at the end of a shorter run, once n events reach it.
+abbrev pub HasOpened : Setup → List Event → ℕ → ℕ → Values → Type 0
+HasOpened s es n at x =
+    min at (length es) ≤ n
+    → AreValues s (view (moment s es (min at (length es)))) x.values.items x.regions.items
+
 -- What a picture shows of a run, none of whose events is refused: its occupancy, the lifetimes of
--- its requests, the events in a range with their changes, and all findings.
+-- its requests, the values at the first moment of a range, the events in the range with their
+-- changes, and all findings.
 pub record IsSeen (s : Setup) (es : List Event) (r : EventRange) (x : Seen) : Type 0 where
   pub runs : Accepts (start s) es
   pub followed : IsFollowed s es r.from x.followed
+  pub values : HasOpened s es (length es) r.from x.values
   pub steps : AreSteps s es r (length es) x.steps.items
   pub findings : IsReportOf s es (findings_in x.findings.items)
 

@@ -14,15 +14,16 @@ use Rattle.run_log.specs.Lines.{change_text, rows}
 use Rattle.run_log.specs.Listings.{IsListing}
 use Rattle.run_log.specs.Ranges.{has}
 use Rattle.timeline.specs.declared.parts.StepPart.{StepPart}
+use Rattle.timeline.specs.Values.{change_texts, change_shown}
 
--- A line as it is drawn. Invalid UTF-8 is replaced by U+FFFD, and all after the first 400 bytes by
+-- A line of trace events. Invalid UTF-8 is replaced by U+FFFD, and all after the first 400 bytes by
 -- two dots.
 abbrev pub shown_line : List ℕ → List ℕ
 shown_line line =
     if nat_le (length line) 400 then utf8_lossy line
     else utf8_lossy (take 400 line) ++ codes ".."
 
--- Event i in the words of a schedule, with the lines of its changes. The lines list each place of
+-- Event i in the words of a schedule, with its changes, whole and as lines. They list each place of
 -- its exact undo record once.
 pub record IsStep (s : Setup) (es : List Event) (i : ℕ) (x : StepPart) : Type 0 where
   pub event : Event
@@ -33,7 +34,8 @@ pub record IsStep (s : Setup) (es : List Event) (i : ℕ) (x : StepPart) : Type 
   pub once : NamesOnce past
   pub listed : List Changed
   pub listing : IsListing (view (moment s es (i + 1))) past listed
-  pub lines : map (λ text. string_bytes text) x.changes.items
+  pub changes : map change_texts x.changes.items ≡ map (change_shown s) (rows listed)
+  pub lines : map (λ text. string_bytes text) x.lines.items
       ≡ map (λ row. shown_line (change_text s row)) (rows listed)
 
 -- A list of the event, or an empty list if it isn't in the range.

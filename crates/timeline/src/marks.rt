@@ -36,3 +36,18 @@ pub(crate) fn finding_parts(
     }
     Ok(parts)
 }
+
+/// Returns the kinds of the findings at a moment.
+pub(crate) fn kinds_at(
+    alloc: Global,
+    findings: &[FindingPart],
+    moment: u32,
+) -> Result<Vec<&'static str>, AllocError> {
+    let mut kinds = Vec::new(alloc);
+    for finding in findings {
+        if finding.moment == moment {
+            kinds.push(finding.kind)?;
+        }
+    }
+    Ok(kinds)
+}

@@ -7,11 +7,13 @@ ghost use Rattle.runs.specs.Moments.{IsAt};
 ghost use Rattle.occupancy.specs.Occupancies.{HasFollowed};
 ghost use Rattle.findings.specs.Searching.{HasSearched};
 ghost use Rattle.explanations.specs.ReportLists.{findings_in};
-ghost use Rattle.timeline.specs.Pictures.{IsSeen, fault_of, Stops};
+ghost use Rattle.timeline.specs.Pictures.{IsSeen, HasOpened, fault_of, Stops};
 ghost use Rattle.timeline.specs.Steps.{AreSteps};
 
+use crate::opening::Opening;
 use crate::parts::StepPart;
 use crate::steps::{Ranged, Steps};
+use crate::values::Values;
 use explanations::{Report, reports_of};
 use findings::{Found, Search};
 use machine::{Event, Setup, State};
@@ -26,13 +28,15 @@ use std::marker::Brand;
 #[derive(Drop)]
 pub(crate) struct Seen {
     pub followed: Followed,
+    /// The values at the first moment of the part that is drawn.
+    pub values: Values,
     /// The events of the part that is drawn.
     pub steps: Vec<StepPart>,
     pub findings: Vec<Report>,
 }
 
 /// The observers of a run that is drawn.
-type Observers<K> = Pair<Pair<Follower<K>, Search>, Steps<K>>;
+type Observers<K> = Pair<Pair<Follower<K>, Search>, Pair<Opening<K>, Steps<K>>>;
 
 // Returns the fault of a run that ends early. The observers stop only where an allocation fails.
 fn fault_of<E: Drop>(ended: Ended<E>) -> ReportFault
@@ -62,17 +66,24 @@ fn observers_of<K: StagesMoment + Ranged>(
         → HasSearched setup.now es 0 o.first.second.found.items o.first.second.numbers.items
         o.first.second.watches.items o.first.second.files.writes.items
         o.first.second.files.suspects.items o.first.second.files.retried.items) }
-    ensures range { IfOk result (λ o. o.second.range ≡ K.range) }
-    ensures none { IfOk result (λ o. o.second.steps.items ≡ []) }
+    ensures opening { IfOk result (λ o. o.second.first.range ≡ K.range) }
+    ensures opened { IfOk result (λ o. (es : List Event)
+        → HasOpened setup.now es 0 K.range.from o.second.first.values) }
+    ensures range { IfOk result (λ o. o.second.second.range ≡ K.range) }
+    ensures none { IfOk result (λ o. o.second.second.steps.items ≡ []) }
 {
     let follower = Follower::new(alloc, setup, state, range.from)?;
     let search = Search::new(alloc, setup, state)?;
+    let opening = Opening::new(alloc, setup, state, range)?;
     Ok(Pair {
         first: Pair {
             first: follower,
             second: search,
         },
-        second: Steps::new(alloc, range),
+        second: Pair {
+            first: opening,
+            second: Steps::new(alloc, range),
+        },
     })
 }
 
@@ -116,7 +127,9 @@ fn seen_of<K: StagesMoment + Ranged>(
         observers.first.second.watches.items observers.first.second.files.writes.items
         observers.first.second.files.suspects.items observers.first.second.files.retried.items }
     requires steps { AreSteps setup.now events.now K.range (length events.now)
-        observers.second.steps.items }
+        observers.second.second.steps.items }
+    requires opened { HasOpened setup.now events.now (length events.now) K.range.from
+        observers.second.first.values }
     ensures { IfOk result (IsSeen setup.now events.now range) }
 {
     let Pair { first, second } = observers;
@@ -124,12 +137,17 @@ fn seen_of<K: StagesMoment + Ranged>(
         first: follower,
         second: search,
     } = first;
+    let Pair {
+        first: opening,
+        second: steps,
+    } = second;
     let followed = follower.finish(state)?;
     let found = search.finish(setup, events, state)?;
     let findings = reports_of_found(alloc, setup, events, state, &found)?;
     Ok(Seen {
         followed,
-        steps: second.steps,
+        values: opening.values,
+        steps: steps.steps,
         findings,
     })
 }

@@ -5,11 +5,39 @@ use occupancy::Filling;
 use serde::Serialize;
 use std::alloc::{AllocError, Global};
 
-/// An event in the words of a schedule, and the lines of what it changed, as `log` prints them.
+/// A change of a place, or of consecutive bytes: the place, its old value and its new one, as the
+/// log prints them, but bytes in base64.
+#[derive(Drop, Serialize)]
+pub struct ChangePart(pub String, pub String, pub String);
+
+/// A place and its value, as `show` prints them, or the place of the first byte of a region and its
+/// bytes in base64.
+#[derive(Drop, Serialize)]
+pub struct ValuePart(pub String, pub String);
+
+/// An event in the words of a schedule, what it does, and what it changed.
 #[derive(Drop, Serialize)]
 pub struct StepPart {
     pub event: String,
-    pub changes: Vec<String>,
+    /// The instruction of a thread, or what happens to a request.
+    pub does: String,
+    /// The index of the instruction in its thread's program.
+    pub instruction: Option<u32>,
+    /// The request that is issued, finished or expired.
+    pub row: Option<u32>,
+    pub changes: Vec<ChangePart>,
+    /// The changes as the log prints them, cut if they are long, for trace events.
+    #[serde(skip)]
+    pub lines: Vec<String>,
+}
+
+/// An object of the setup.
+#[derive(Drop, Serialize)]
+pub struct ObjectPart {
+    pub name: String,
+    pub kind: &'static str,
+    /// The bytes that a pipe can hold.
+    pub capacity: Option<u32>,
 }
 
 /// A row: its request, when it was queued, issued and completed, and its result.
@@ -23,11 +51,17 @@ pub struct RowPart {
     pub off: String,
     pub addr: String,
     pub len: u32,
+    /// The flags of its operation, such as timeout_flags.
+    pub opflags: u32,
     pub user: String,
     /// The first row of its chain.
     pub unit: u32,
     /// If it is a linked timeout, the row that it limits.
     pub target: Option<u32>,
+    /// When a timeout is due, in nanoseconds.
+    pub deadline: Option<String>,
+    /// How many requests had completed when a timeout was issued.
+    pub base: u32,
     pub queued: u32,
     pub issued: Option<u32>,
     pub ended: Option<u32>,
@@ -61,11 +95,15 @@ pub struct PagePart<'a> {
     /// The sizes of the rings.
     pub entries: u32,
     pub completions: u32,
-    /// What each thread does at the first event.
-    pub stages: Vec<String>,
-    pub poller: Option<String>,
+    pub objects: Vec<ObjectPart>,
+    /// The descriptors, from 3 on, by the names of a script.
+    pub descriptors: Vec<String>,
     /// Each thread's instructions.
     pub programs: Vec<Vec<String>>,
+    /// The values at the first moment.
+    pub values: &'a [ValuePart],
+    /// The bytes at the first moment, without zeros at the end.
+    pub regions: &'a [ValuePart],
     pub steps: &'a [StepPart],
     /// One per moment, from before the first event to after the last.
     pub fillings: Vec<FillingPart>,

@@ -1,16 +1,18 @@
 //! Builds the data of a page, and the bytes of a trace event file, from a run that was stepped.
 
 use crate::drawn::Drawn;
-use crate::marks::finding_parts;
-use crate::parts::{FillingPart, FindingPart, PagePart, RowPart, StepPart, filling_part};
+use crate::marks::{finding_parts, kinds_at};
+use crate::parts::{
+    FillingPart, FindingPart, ObjectPart, PagePart, RowPart, StepPart, filling_part,
+};
 use crate::row_parts::{program_part, row_part};
 use crate::trace_events::{
     Slice, add_filling, add_finding, add_link, add_row, add_slice, begin, end,
 };
 use entries::Row;
 use machine::{Setup, ring_size};
-use occupancy::{Filling, Occupancy, ThreadStages};
-use places::Value;
+use occupancy::{Filling, Occupancy};
+use places::{Contents, Descriptor, End, Object};
 use run_log::EventRange;
 use scenario::completion_entries;
 use std::alloc::{AllocError, Global};
@@ -80,25 +82,50 @@ fn programs(alloc: Global, setup: &Setup) -> Result<Vec<Vec<String>>, AllocError
     Ok(texts)
 }
 
-// Returns what each thread does next, as `show` prints it.
-fn stage_texts(alloc: Global, thread_stages: &ThreadStages) -> Result<Vec<String>, AllocError> {
-    let mut texts = Vec::new(alloc);
-    for stage in &thread_stages.stages {
-        let text = Value::Staged(*stage).text(alloc)?;
-        texts.push(String::from_utf8_lossy(alloc, text.as_slice())?)?;
-    }
-    Ok(texts)
+fn object_part(alloc: Global, object: &Object) -> Result<ObjectPart, AllocError> {
+    let (kind, capacity) = match object.contents {
+        Contents::File(_) => ("file", None),
+        Contents::Pipe(capacity) => ("pipe", Some(capacity)),
+        Contents::EventFd(_) => ("eventfd", None),
+    };
+    Ok(ObjectPart {
+        name: String::from_utf8_lossy(alloc, object.name.as_slice())?,
+        kind,
+        capacity,
+    })
 }
 
-// Returns whether the poller is awake, as `show` prints it, or None without a poller.
-fn poller_text(alloc: Global, thread_stages: &ThreadStages) -> Result<Option<String>, AllocError> {
-    match thread_stages.awake {
-        Some(awake) => {
-            let text = Value::Awake(awake).text(alloc)?;
-            Ok(Some(String::from_utf8_lossy(alloc, text.as_slice())?))
-        }
-        None => Ok(None),
+fn object_parts(alloc: Global, setup: &Setup) -> Result<Vec<ObjectPart>, AllocError> {
+    let mut parts = Vec::new(alloc);
+    for object in setup.objects.as_slice() {
+        parts.push(object_part(alloc, object)?)?;
     }
+    Ok(parts)
+}
+
+// Returns a descriptor by its name in a script.
+fn descriptor_text(
+    alloc: Global,
+    setup: &Setup,
+    descriptor: Descriptor,
+) -> Result<String, AllocError> {
+    let name = match setup.objects.as_slice().get(descriptor.object as usize) {
+        Some(object) => String::from_utf8_lossy(alloc, object.name.as_slice())?,
+        None => String::new(alloc),
+    };
+    match descriptor.end {
+        End::Whole => Ok(name),
+        End::Read => format!(in alloc; "{name}:r"),
+        End::Write => format!(in alloc; "{name}:w"),
+    }
+}
+
+fn descriptors(alloc: Global, setup: &Setup) -> Result<Vec<String>, AllocError> {
+    let mut texts = Vec::new(alloc);
+    for descriptor in setup.fds.as_slice() {
+        texts.push(descriptor_text(alloc, setup, *descriptor)?)?;
+    }
+    Ok(texts)
 }
 
 /// Returns the data of the page of a run.
@@ -109,7 +136,7 @@ pub(crate) fn page_part<'a>(alloc: Global, drawn: Drawn<'a>) -> Result<PagePart<
     let count = event_count(occupancy);
     let from = drawn.range.from;
     let to = end_of(drawn.range, count);
-    let thread_stages = &followed.thread_stages;
+    let seen = drawn.seen;
     Ok(PagePart {
         run: drawn.name,
         from,
@@ -117,13 +144,15 @@ pub(crate) fn page_part<'a>(alloc: Global, drawn: Drawn<'a>) -> Result<PagePart<
         events: count,
         entries: ring_size(setup.entries),
         completions: ring_size(completion_entries(setup.entries, setup.cq)),
-        stages: stage_texts(alloc, thread_stages)?,
-        poller: poller_text(alloc, thread_stages)?,
+        objects: object_parts(alloc, setup)?,
+        descriptors: descriptors(alloc, setup)?,
         programs: programs(alloc, setup)?,
-        steps: &drawn.seen.steps,
+        values: &seen.values.values,
+        regions: &seen.values.regions,
+        steps: &seen.steps,
         fillings: filling_parts(alloc, fillings_in(occupancy, from, to))?,
         rows: row_parts(alloc, &followed.rows, occupancy, from, to)?,
-        findings: finding_parts(alloc, &drawn.seen.findings, from, to, count)?,
+        findings: finding_parts(alloc, &seen.findings, from, to, count)?,
     })
 }
 
@@ -204,12 +233,14 @@ fn add_slices(
     out: &mut Vec<u8>,
     steps: &[StepPart],
     fillings: &[Filling],
+    findings: &[FindingPart],
     from: u32,
 ) -> Result<Vec<u32>, AllocError> {
     let mut tracks = Vec::new(alloc);
     let mut moment = from;
     for (index, step) in steps.iter().enumerate() {
-        let track = add_slice(alloc, out, moment, step, clock_at(fillings, index))?;
+        let found = kinds_at(alloc, findings, moment)?;
+        let track = add_slice(alloc, out, moment, step, &found, clock_at(fillings, index))?;
         tracks.push(track)?;
         moment = moment.saturating_add(1);
     }
@@ -266,7 +297,14 @@ pub(crate) fn trace_file(alloc: Global, drawn: Drawn<'_>) -> Result<Vec<u8>, All
     let has_poller = followed.thread_stages.awake.is_some();
     let threads = drawn.setup.threads.len();
     begin(alloc, &mut out, drawn.name, threads, has_poller)?;
-    let tracks = add_slices(alloc, &mut out, &drawn.seen.steps, fillings, from)?;
+    let tracks = add_slices(
+        alloc,
+        &mut out,
+        &drawn.seen.steps,
+        fillings,
+        &findings,
+        from,
+    )?;
     add_fillings(alloc, &mut out, fillings, from)?;
     add_rows(alloc, &mut out, &parts, to)?;
     add_links(alloc, &mut out, &parts, &tracks, from)?;

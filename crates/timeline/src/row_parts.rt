@@ -24,6 +24,13 @@ fn text(alloc: Global, number: u64) -> Result<String, AllocError> {
     format!(in alloc; "{number}")
 }
 
+fn deadline_text(alloc: Global, deadline: Option<u128>) -> Result<Option<String>, AllocError> {
+    match deadline {
+        Some(deadline) => Ok(Some(format!(in alloc; "{deadline}")?)),
+        None => Ok(None),
+    }
+}
+
 /// Returns a row with its number and its moments.
 pub(crate) fn row_part(
     alloc: Global,
@@ -40,9 +47,12 @@ pub(crate) fn row_part(
         off: text(alloc, row.entry.off)?,
         addr: text(alloc, row.entry.addr)?,
         len: row.entry.len,
+        opflags: row.entry.operation_flags,
         user: text(alloc, row.entry.user_data)?,
         unit: row.unit,
         target: row.target,
+        deadline: deadline_text(alloc, row.deadline)?,
+        base: row.base,
         queued: stamps.queued,
         issued: stamps.issued,
         ended: stamps.ended,
@@ -53,11 +63,14 @@ pub(crate) fn row_part(
 fn put_text(alloc: Global, slot: u32, entry: &Sqe) -> Result<String, AllocError> {
     let name = name_of(entry.opcode);
     let user = entry.user_data;
-    format!(in alloc; "put {slot} {name} user_data {user}")
+    format!(in alloc; "put {slot} {name} ud {user}")
 }
 
-// Returns an instruction in the words of a script, without the bytes of a store.
-fn instruction_text(alloc: Global, instruction: &Instruction) -> Result<String, AllocError> {
+/// Returns an instruction in the words of a script, without the bytes of a store.
+pub(crate) fn instruction_text(
+    alloc: Global,
+    instruction: &Instruction,
+) -> Result<String, AllocError> {
     match instruction {
         Instruction::Put(slot, entry) => put_text(alloc, *slot, entry),
         Instruction::Push(slot) => format!(in alloc; "push {slot}"),

@@ -4,6 +4,8 @@ ghost use Rattle.run_log.specs.declared.range.EventRange.{EventRange};
 ghost use Rattle.runs.specs.Moments.{IsAfter};
 ghost use Rattle.timeline.specs.Steps.{shown_line, IsStep, AreSteps};
 
+use crate::changes::change_parts;
+use crate::deeds::deed_of;
 use crate::parts::StepPart;
 use places::Record;
 use run_log::{EventRange, change_lines, changes_of};
@@ -12,7 +14,7 @@ use script::EventText;
 use std::alloc::{AllocError, Global};
 use std::marker::{Brand, PhantomData};
 
-/// The most bytes of a line that are drawn.
+/// The most bytes of a line of trace events.
 const LONGEST: usize = 400;
 
 /// The range of the events that are collected, for proofs.
@@ -33,7 +35,7 @@ pub(crate) struct Steps<K> {
     proof: PhantomData<K>,
 }
 
-// Returns a line as it is drawn, cut if it is long.
+// Returns a line for trace events, cut if it is long.
 fn shown_line(alloc: Global, line: &[u8]) -> Result<String, AllocError>
     ensures { IfOk result (λ text. string_bytes text ≡ shown_line line.now) }
 {
@@ -63,10 +65,15 @@ fn step_of(alloc: Global, at: Observed<'_>, past: &Record) -> Result<StepPart, A
 {
     let changes = changes_of(alloc, past, at.state)?;
     let lines = change_lines(alloc, at.setup, &changes)?;
+    let deed = deed_of(alloc, at.setup, at.state, &changes, at.event)?;
     let event = EventText(at.event);
     Ok(StepPart {
         event: format!(in alloc; "{event}")?,
-        changes: shown_lines(alloc, &lines)?,
+        does: deed.text,
+        instruction: deed.instruction,
+        row: deed.row,
+        changes: change_parts(alloc, at.setup, &changes)?,
+        lines: shown_lines(alloc, &lines)?,
     })
 }
 

@@ -108,19 +108,43 @@ fn track_of(words: &str) -> u32 {
     }
 }
 
-/// Adds an event of the run as a slice from its moment to the next, and returns its track.
+/// The arguments of a slice.
+#[derive(Clone, Copy, Serialize)]
+struct SliceArguments<'a> {
+    event: u32,
+    schedule: &'a str,
+    clock: u64,
+    instruction: Option<u32>,
+    row: Option<u32>,
+    /// The kinds of the findings at the event.
+    finding: &'a [&'static str],
+    changes: &'a [String],
+}
+
+/// Adds an event of the run as a slice from its moment to the next, named by what it does, and
+/// returns its track.
 pub(crate) fn add_slice(
     alloc: Global,
     out: &mut Vec<u8>,
     index: u32,
     step: &StepPart,
+    found: &[&'static str],
     clock: u64,
 ) -> Result<u32, AllocError> {
     let track = track_of(step.event.as_str());
-    let name = json(alloc, &step.event)?;
-    let changes = json(alloc, &step.changes)?;
+    let name = json(alloc, &step.does)?;
+    let arguments = SliceArguments {
+        event: index,
+        schedule: step.event.as_str(),
+        clock,
+        instruction: step.instruction,
+        row: step.row,
+        finding: found,
+        changes: &step.lines,
+    };
+    let arguments = json(alloc, &arguments)?;
     let members = format!(in alloc;
-        "\"ph\":\"X\",\"name\":{name},\"cat\":\"event\",\"tid\":{track},\"ts\":{index},\"dur\":1,\"args\":{{\"event\":{index},\"clock\":{clock},\"changes\":{changes}}}"
+        "\"ph\":\"X\",\"name\":{name},\"cat\":\"event\",\"tid\":{track},\"ts\":{index},\"dur\":1,\"args\":{arguments}"
     )?;
     add(out, members.as_str())?;
     Ok(track)

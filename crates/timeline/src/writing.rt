@@ -1,6 +1,6 @@
 //! Writes pictures as bytes.
 use crate::drawn::Drawn;
-use crate::page::{HEAD, TAIL};
+use crate::page::{AFTER, BEFORE};
 use crate::parts::PagePart;
 use crate::picture_parts::{page_part, trace_file};
 use std::alloc::{AllocError, Global};
@@ -25,12 +25,19 @@ fn put_json(out: &mut Vec<u8>, json: &[u8]) -> Result<(), AllocError> {
     Ok(())
 }
 
+fn put_texts(out: &mut Vec<u8>, texts: &[&str]) -> Result<(), AllocError> {
+    for text in texts {
+        out.extend_from_slice(text.as_bytes())?;
+    }
+    Ok(())
+}
+
 // Returns a page with this data.
 fn page_around(alloc: Global, json: &[u8]) -> Result<Vec<u8>, AllocError> {
     let mut out = Vec::new(alloc);
-    out.extend_from_slice(HEAD.as_bytes())?;
+    put_texts(&mut out, &BEFORE)?;
     put_json(&mut out, json)?;
-    out.extend_from_slice(TAIL.as_bytes())?;
+    put_texts(&mut out, &AFTER)?;
     Ok(out)
 }
 

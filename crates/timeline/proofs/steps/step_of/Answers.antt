@@ -3,6 +3,7 @@ use Rattle.std.proofs.lemmas.Simd.{map-map}
 use Rattle.script.specs.EventTexts.{event_text}
 use Rattle.run_log.specs.Lines.{change_text, rows}
 use Rattle.timeline.specs.Steps.{shown_line}
+use Rattle.timeline.specs.Values.{change_shown}
 use Rattle.timeline.proofs.Stepping.{is_step}
 use Rattle.timeline.proofs.steps.step_of.Goals as goal
 
@@ -14,4 +15,5 @@ returns c =
     is_step c.args.at.setup.now c.args.at.events.now c.args.at.index c.args.at.event c.args.past.now c.args.at.state.now c.in_ok-changes.changes.items (map (λ line. line.items) lines) _ c.requires listed.once listed.listing
     (c.in_ok-lines.ensures ∙ ap (λ ds. map (change_text c.args.at.setup.now) (rows ds)) c.deref.ensures.value)
     words
-    (c.in_ok-shown_lines.ensures ∙ ap (map (λ line. shown_line line.items)) c.deref-2.ensures.value ∙ sym (map-map shown_line (λ line. line.items) lines))
+    (c.in_ok-shown_lines.ensures ∙ ap (map (λ line. shown_line line.items)) c.deref-4.ensures.value ∙ sym (map-map shown_line (λ line. line.items) lines))
+    (c.in_ok-change_parts.ensures ∙ ap (λ ds. map (change_shown c.args.at.setup.now) (rows ds)) c.deref-3.ensures.value)

@@ -1,0 +1,7 @@
+use Rattle.std.proofs.Common.{◌≡◌, ◌++◌, take, map}
+use Rattle.machine.specs.Whole.{view}
+use Rattle.timeline.specs.Values.{value_texts, values_of}
+use Rattle.timeline.proofs.values.add_values.Given as goal
+
+abbrev pub invariant-loop-place : goal.invariant-loop-place
+invariant-loop-place l = map value_texts l.out.items ≡ map value_texts l.fn.out.items ++ values_of l.setup (view l.state) (take l.place-index l.places)
