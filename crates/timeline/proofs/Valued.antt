@@ -1,5 +1,5 @@
 -- The values of a moment, extended by the places of one index, by one byte, and by one region.
-use Rattle.std.proofs.Common.{◌≡◌, ℕ, zero, suc, ◌+◌, refl, sym, ap, ◌∙◌, subst, List, [], ◌∷◌, ◌++◌, map, add-one, append_assoc, string_bytes}
+use Rattle.std.proofs.Common.{◌≡◌, ℕ, ◌+◌, sym, ap, ◌∙◌, subst, List, [], ◌∷◌, ◌++◌, map, add-one, append_assoc, string_bytes}
 use Rattle.std.specs.Prelude.{replicate}
 use Rattle.std.specs.List.{All}
 use Rattle.std.specs.Str.Lossy.{utf8_lossy}

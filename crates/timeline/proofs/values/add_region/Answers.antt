@@ -1,4 +1,4 @@
-use Rattle.std.proofs.Common.{◌≡◌, ◌∙◌, sym, ap}
+use Rattle.std.proofs.Common.{◌∙◌, sym, ap}
 use Rattle.std.specs.Str.Lossy.{utf8_lossy}
 use Rattle.scenario.specs.PlaceTexts.{place_text}
 use Rattle.machine.specs.Whole.{view}
