@@ -2,8 +2,11 @@
 
 use entries::{Phase, Row};
 use machine::{Event, Setup, State};
-use places::{Change, Place, Record, Stage, Value};
+use places::{Change, Place, Record, Region, Stage, Value};
 use script::EventText;
+use state_places::{
+    PARTS, REQUESTS, SLOTS, lone_places, places_of_part, places_of_request, places_of_slot,
+};
 use std::alloc::{AllocError, Global};
 use std::fmt;
 
@@ -11,14 +14,6 @@ use std::fmt;
 const BEGIN: u64 = 14695981039346656037;
 
 const PRIME: u64 = 1099511628211;
-
-/// The maximum number of entries of a ring, of threads or descriptors, and of requests or of bytes
-/// of memory or an object.
-const SLOTS: u32 = 8192;
-
-const FEW: u32 = 128;
-
-const MANY: u32 = 65536;
 
 /// An FNV-1a checksum, and the number of values in it. Numbers have eight bytes, little-endian.
 /// Bytes of variable length come after their length.
@@ -76,26 +71,29 @@ impl Sum {
     /// consists of its kind and two numbers.
     pub fn from_state(setup: &Setup, state: &State) -> Sum {
         let mut sum = Sum::new();
-        sum.add_places(state, &places_alone());
-        for i in 0..FEW {
-            sum.add_places(state, &few_places(i));
+        sum.add_places(state, &lone_places());
+        for i in 0..PARTS {
+            sum.add_places(state, &places_of_part(i));
         }
         for i in 0..SLOTS {
-            let places = [Place::Array(i), Place::Slot(i), Place::Completion(i)];
-            sum.add_places(state, &places);
+            sum.add_places(state, &places_of_slot(i));
         }
-        for i in 0..MANY {
-            let places = [Place::MemoryByte(i), Place::Request(i), Place::Backlog(i)];
-            sum.add_places(state, &places);
+        for i in 0..REQUESTS {
+            sum.add_places(state, &places_of_request(i));
         }
+        sum.add_region(state, Region::Memory);
         for object in 0..setup.objects.len().min(32) as u32 {
-            for i in 0..MANY {
-                let of_file = [Place::FileByte(object, i), Place::DurableByte(object, i)];
-                sum.add_places(state, &of_file);
-                sum.add_places(state, &[Place::PipeByte(object, i)]);
-            }
+            sum.add_region(state, Region::File(object));
+            sum.add_region(state, Region::Durable(object));
+            sum.add_region(state, Region::Pipe(object));
         }
         sum
+    }
+
+    fn add_region(&mut self, state: &State, region: Region) {
+        for i in 0..REQUESTS {
+            self.add_places(state, &[region.place(i)]);
+        }
     }
 
     fn add_places(&mut self, state: &State, places: &[Place]) {
@@ -182,37 +180,4 @@ impl Sum {
             None => self.add_numbers(&[0]),
         }
     }
-}
-
-// The places without an index.
-fn places_alone() -> [Place; 10] {
-    [
-        Place::SubmissionHead,
-        Place::SubmissionTail,
-        Place::SubmissionFlags,
-        Place::SubmissionDropped,
-        Place::CompletionHead,
-        Place::CompletionTail,
-        Place::BacklogFront,
-        Place::Clock,
-        Place::Counted,
-        Place::PollerStage,
-    ]
-}
-
-// The places of an object, a descriptor or a thread.
-fn few_places(i: u32) -> [Place; 11] {
-    [
-        Place::FileLength(i),
-        Place::DurableLength(i),
-        Place::Position(i),
-        Place::OpenMark(i),
-        Place::PutCount(i),
-        Place::TakenCount(i),
-        Place::EventCount(i),
-        Place::ProgramCounter(i),
-        Place::ThreadStage(i),
-        Place::Last(i),
-        Place::Got(i),
-    ]
 }

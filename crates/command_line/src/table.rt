@@ -80,7 +80,7 @@ const DRAWN: &str =
     "OUT ends in .html for a page that a browser opens without a network, or in .json for trace events that Perfetto and chrome://tracing open. Creates or replaces OUT, which can't be RUN's own file. A run of more than 5000 events needs both --from and --to. RUN - is standard input. Example:\n  uringwalk timeline examples/severed_link/script.json severed_link.html";
 
 const EXPLORED: &str =
-    "Makes random runs of the threads, the poller and the kernel, each of which a seed and a number repeat, and looks for the first that shows a fault. The script's own schedule isn't used. Prints what was found, with the shortest schedule for it that the search knows. The status is 3 if something was found. Kinds failed and short count only where --kind names them. Example:\n  uringwalk explore examples/lost_wake_up/script.json --out found.json\n  uringwalk explain found.json";
+    "Makes random runs of the threads, the poller and the kernel, and looks for the first that shows a fault. The seed and its number repeat a run. The script's own schedule isn't used. Prints what was found, with the shortest schedule for it that the search knows. The status is 3 if something was found. Kinds failed and short count only where --kind names them. Example:\n  uringwalk explore examples/lost_wake_up/script.json --out found.json\n  uringwalk explain found.json";
 
 const SCHEDULED: &str =
     "Writes the text of SCRIPT with the events of TRACE as its schedule. Creates or replaces OUT, which can't be SCRIPT's or TRACE's own file. Example:\n  uringwalk live examples/words_in_a_pipe/script.json --trace words.trace <examples/words_in_a_pipe/stdin\n  uringwalk schedule examples/words_in_a_pipe/script.json words.trace words.json";

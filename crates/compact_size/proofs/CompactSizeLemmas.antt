@@ -7,7 +7,7 @@ use Rattle.byteorder.specs.Numbers.{little_number-reads_back, length-bytes_low_f
 use Rattle.compact_size.specs.Reading.{Puts}
 use Rattle.compact_size.specs.CompactSizes.{number_of, after, wide_number}
 
-small_reads : (n : ℕ) (rest : List ℕ) → n < 253 → (number_of (n ∷ rest) ≡ n) × (after (n ∷ rest) ≡ rest)
+pub small_reads : (n : ℕ) (rest : List ℕ) → n < 253 → (number_of (n ∷ rest) ≡ n) × (after (n ∷ rest) ≡ rest)
 unfolding number_of after
 small_reads n rest h =
     let a : (n == 253) ≡ false = grind arith in

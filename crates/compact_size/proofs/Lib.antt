@@ -1,2 +1,3 @@
 pub mod ReadingLemmas
 pub mod CompactSizeLemmas
+pub mod FrameLemmas

@@ -1,2 +1,3 @@
 pub mod CompactSizes
 pub mod Reading
+pub mod Frames

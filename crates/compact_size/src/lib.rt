@@ -1,10 +1,11 @@
 //! A compact encoding of unsigned integers, in 1, 3, 5 or 9 bytes. Undo records are stored in it.
 #![tactic(auto)]
 
-ghost use Rattle.std.specs.Prelude.{◌≡◌, ◌<◌, ◌∷◌, ◌++◌, [], drop, OnOk};
+ghost use Rattle.std.specs.Prelude.{◌≡◌, ℕ, ◌-◌, ◌<◌, ◌≤◌, ◌∷◌, ◌++◌, [], take, drop, length, slice_index, slice_set, OnOk};
 ghost use Rattle.byteorder.specs.Endian.{little_bytes};
 ghost use Rattle.compact_size.specs.Reading.{Puts};
-ghost use Rattle.compact_size.specs.CompactSizes.{number_of, after, after_many, wide_number, byte_of, half_of, word_of, signed_of, long_of};
+ghost use Rattle.compact_size.specs.CompactSizes.{number_of, after, wide_number, byte_of, half_of, word_of, signed_of, long_of};
+ghost use Rattle.compact_size.specs.Frames.{framed, past_frame, Frames};
 
 use byteorder::{ByteOrder, LittleEndian};
 use std::alloc::AllocError;
@@ -102,11 +103,25 @@ impl<'a> CompactSizes<'a> {
         self.number().cast_signed()
     }
 
-    /// Skips the given number of encoded numbers.
-    pub fn skip(&mut self, count: u64)
-        ensures { self.new ≡ after_many count self.old }
+    /// Reads a frame. The cursor returned reads its numbers, and 0 after them.
+    pub fn frame(&mut self) -> CompactSizes<'a>
+        ensures value { result ≡ framed self.old }
+        ensures left { self.new ≡ past_frame self.old }
     {
-        self.bytes = past_numbers(self.bytes, count);
+        let size = self.number() as usize;
+        let bytes = self.bytes;
+        self.bytes = past(bytes, size);
+        CompactSizes {
+            bytes: up_to(bytes, size),
+        }
+    }
+
+    /// Skips a frame.
+    pub fn skip_frame(&mut self)
+        ensures { self.new ≡ past_frame self.old }
+    {
+        let size = self.number() as usize;
+        self.bytes = past(self.bytes, size);
     }
 }
 
@@ -125,34 +140,6 @@ fn first_number(bytes: &[u8]) -> (u64, &[u8])
             _ => (u64::from(*first), rest),
         },
     }
-}
-
-// Returns the bytes after the number at their start.
-#[tactic(auto, unfolding(crate::specs::CompactSizes::after))]
-fn past_number(bytes: &[u8]) -> &[u8]
-    ensures { result.now ≡ after bytes.now }
-{
-    match bytes {
-        [] => bytes,
-        [first, rest @ ..] => match *first {
-            TWO => past(rest, 2),
-            FOUR => past(rest, 4),
-            EIGHT => past(rest, 8),
-            _ => rest,
-        },
-    }
-}
-
-fn past_numbers(bytes: &[u8], count: u64) -> &[u8]
-    ensures { result.now ≡ after_many count bytes.now }
-{
-    let mut rest = bytes;
-    let mut left = count;
-    while left > 0 {
-        rest = past_number(rest);
-        left -= 1;
-    }
-    rest
 }
 
 fn two_of(bytes: &[u8]) -> u64
@@ -190,6 +177,13 @@ fn past(bytes: &[u8], n: usize) -> &[u8]
     ensures { result.now ≡ drop n bytes.now }
 {
     if bytes.len() < n { &[] } else { &bytes[n..] }
+}
+
+// Returns the first n bytes, or all if there are fewer.
+fn up_to(bytes: &[u8], n: usize) -> &[u8]
+    ensures { result.now ≡ take n bytes.now }
+{
+    if bytes.len() < n { bytes } else { &bytes[..n] }
 }
 
 /// Appends a number. Fails only if an allocation fails.
@@ -253,5 +247,46 @@ pub fn put_numbers(out: &mut Vec<u8>, numbers: &[u64]) -> Result<(), AllocError>
     for number in numbers {
         put_number(out, *number)?;
     }
+    Ok(())
+}
+
+/// Appends numbers as a frame: the length of their bytes, and then the numbers. Zeros at the end
+/// are left out. Fails if an allocation fails, or if the bytes are 253 or more.
+pub fn put_frame(out: &mut Vec<u8>, numbers: &[u64]) -> Result<(), AllocError>
+    ensures { OnOk result (Frames out.old.items numbers.now out.new.items) }
+{
+    let used = used_len(numbers);
+    out.push(0)?;
+    let start = out.len();
+    put_numbers(out, &numbers[..used])?;
+    set_size(out, start)?;
+    Ok(())
+}
+
+// Returns how many numbers are left without the zeros at the end.
+fn used_len(numbers: &[u64]) -> usize
+    ensures within { result ≤ length numbers.now }
+    ensures zeros { (j : ℕ) → result ≤ j → slice_index numbers.now j ≡ 0 }
+{
+    let mut len = numbers.len();
+    while len > 0 && numbers[len - 1] == 0 {
+        len -= 1;
+    }
+    len
+}
+
+// Writes the length of a frame's bytes, which begin at `start`, into the byte before them.
+fn set_size(out: &mut Vec<u8>, start: usize) -> Result<(), AllocError>
+    requires first { 0 < start }
+    requires within { start ≤ length out.old.items }
+    ensures size { OnOk result (length out.old.items - start < 253) }
+    ensures items { OnOk result (out.new.items
+        ≡ slice_set out.old.items (start - 1) (length out.old.items - start)) }
+{
+    let size = out.len() - start;
+    if size >= usize::from(TWO) {
+        return Err(AllocError);
+    }
+    out[start - 1] = size as u8;
     Ok(())
 }

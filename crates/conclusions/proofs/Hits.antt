@@ -1,5 +1,5 @@
 -- The run that was found shows the symptom, and the script has its setup.
-use Rattle.std.proofs.Common.{◌≡◌, ℕ, List, sym, subst, Option, None}
+use Rattle.std.proofs.Common.{◌≡◌, ℕ, List, subst, None}
 use Rattle.std.specs.Prelude.{Ok}
 use Rattle.scenario.specs.declared.event.Event.{Event}
 use Rattle.scenario.specs.declared.setup.Setup.{Setup}

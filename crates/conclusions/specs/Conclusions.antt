@@ -6,19 +6,19 @@ use Rattle.commands.specs.declared.command.Command.TheVariants.{Break}
 use Rattle.commands.specs.declared.command.CommandFault.{CommandFault}
 use Rattle.commands.specs.declared.command.CommandFault.TheVariants as fault
 use Rattle.commands.specs.Commands.{command_of}
-use Rattle.scenario.specs.Setups.{setup_refusal}
 use Rattle.scenario.specs.declared.event.Event.{Event}
 use Rattle.scenario.specs.declared.setup.Setup.{Setup}
-use Rattle.machine.specs.Runs.{start, Accepts}
 use Rattle.script.specs.Scripts.{Scenario, Reads}
 use Rattle.finding_kinds.specs.declared.kind.Kind.{Kind}
+use Rattle.symptoms.specs.declared.symptom.Sighting.{Sighting}
 use Rattle.symptoms.specs.declared.symptom.Symptom.{Symptom}
 use Rattle.symptoms.specs.declared.symptom.Symptom.TheVariants.{Finding, Reaches}
 use Rattle.symptoms.specs.declared.symptom.Wanted.{Wanted}
 use Rattle.symptoms.specs.declared.symptom.Wanted.TheVariants.{Faults, Kinds}
-use Rattle.symptoms.specs.Symptoms.{Shows}
+use Rattle.symptoms.specs.Symptoms.{IsSighting}
 use Rattle.exploring.specs.declared.random_runs.RandomRuns.{RandomRuns}
-use Rattle.exploring.specs.RandomRuns.{RunShows}
+use Rattle.exploring.specs.RandomRuns.{HasEvents, RunShows}
+use Rattle.shrinking.specs.Shrinking.{IsShrunk}
 use Rattle.rewriting.specs.Rewriting.{IsRewritten}
 
 -- ---- what is looked for
@@ -44,18 +44,23 @@ sought_by s kinds None = Ok (Finding (wanted_of kinds))
 
 -- ---- what is concluded
 
--- A run of these events shows the symptom at a moment.
-pub record IsShown (s : Setup) (wanted : Symptom) (es : List Event) (m : ℕ) : Type 0 where
-  pub runs : Accepts (start s) es
-  pub shows : Shows s es wanted m
-  pub short : length es ≤ 65536
-
--- A script, made from a text by another schedule, whose run shows the symptom.
-pub record IsFoundScript (text : List ℕ) (s : Setup) (wanted : Symptom) (made : List ℕ) : Type 0 where
+-- The events fs are those of run n, made short. They show the symptom first as y says.
+pub record IsShown (r : RandomRuns) (n : ℕ) (fs : List Event) (y : Sighting) : Type 0 where
   pub events : List Event
-  pub moment : ℕ
-  pub shown : IsShown s wanted events moment
-  pub rewritten : IsRewritten text s events made
+  pub made : HasEvents r n events
+  pub x : Sighting
+  pub sighting : IsSighting r.setup.now events r.symptom x
+  pub shrunk : IsShrunk r.setup.now events r.symptom x fs y
+  pub few : length fs ≤ 65536
+
+-- A script, made from a text by another schedule: that of the run that was found, made short.
+pub record IsFoundScript (text : List ℕ) (r : RandomRuns) (found : Option ℕ) (made : List ℕ) : Type 0 where
+  pub number : ℕ
+  pub hit : found ≡ Some number
+  pub events : List Event
+  pub sighting : Sighting
+  pub shown : IsShown r number events sighting
+  pub rewritten : IsRewritten text r.setup.now events made
 
 -- The text of a script of this setup.
 abbrev pub IsScriptOf : List ℕ → Setup → Type 0

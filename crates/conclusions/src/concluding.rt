@@ -19,7 +19,7 @@ use std::alloc::{AllocError, Global};
 #[derive(Drop)]
 pub struct Conclusion {
     pub printed: String,
-    /// The script with the schedule that was found, if a file was asked for.
+    /// The script with the schedule that was found, if there is a file to write.
     pub script: Option<Vec<u8>>,
     pub is_found: bool,
 }
@@ -121,7 +121,7 @@ fn nothing(
     })
 }
 
-// Returns the script with a schedule, if a file is asked for.
+// Returns the script with a schedule, if there is a file to write.
 fn script_with(
     alloc: Global,
     reporting: Reporting<'_>,
@@ -151,8 +151,8 @@ pub fn conclude(
     requires hit { IsHit runs.now found }
     requires text { IsScriptOf reporting.script.now runs.now.setup.now }
     ensures found { IfOk result (λ c. c.is_found ≡ is_some found) }
-    ensures script { IfOk result (λ c. IfSome c.script (λ made. IsFoundScript
-        reporting.entry.script.now runs.now.setup.now runs.now.symptom made.items)) }
+    ensures script { IfOk result (λ c. IfSome c.script
+        (λ made. IsFoundScript reporting.entry.script.now runs.now found made.items)) }
 {
     let Some(number) = found else {
         return nothing(runs, reporting, totals);

@@ -57,8 +57,8 @@ pub(crate) fn shown_by(runs: &RandomRuns<'_>, number: u32) -> Result<Option<Show
     requires starts { setup_refusal runs.now.setup.now ≡ None }
     requires shows { RunShows runs.now number }
     ensures some { IfOk result (λ shown. IfNone shown ⊥) }
-    ensures shown { IfOk result (λ shown. IfSome shown (λ x. IsShown runs.now.setup.now
-        runs.now.symptom x.shrunk.events.items x.shrunk.sighting.moment)) }
+    ensures shown { IfOk result (λ shown. IfSome shown
+        (λ x. IsShown runs.now number x.shrunk.events.items x.shrunk.sighting)) }
 {
     let events = events_of(runs, number)?;
     let Some(sighting) = sighting_of(runs, &events)? else {

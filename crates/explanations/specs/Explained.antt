@@ -1,19 +1,7 @@
 -- What `explain` reports about the run of a script or a trace.
 use Rattle.std.specs.Prelude.{◌≡◌, ◌==◌, Bool, not, ◌&&◌, ◌||◌, List, length, ℕ}
-use Rattle.std.specs.List.{list_any}
-use Rattle.scenario.specs.declared.event.Event.{Event}
-use Rattle.scenario.specs.declared.setup.Setup.{Setup}
-use Rattle.machine.specs.Runs.{start, Accepts, IsRefused}
-use Rattle.script.specs.Scripts.{Scenario}
-use Rattle.runs.specs.declared.fault.ReportFault.{ReportFault}
-use Rattle.runs.specs.declared.fault.ReportFault.TheVariants.{Script, Trace, Schedule, Write, Memory}
+use Rattle.explanations.specs.Common.{list_any, Event, Setup, start, Accepts, IsRefused, Scenario, ReportFault, Script, Trace, Schedule, Write, Memory, Reads, IsUnread, Finding, Kind, IsReportOf, is_fault, have_one_name}
 use Rattle.runs.specs.declared.reading.RunFault.TheVariants as unread
-use Rattle.runs.specs.Reading.{Reads, IsUnread}
-use Rattle.finding_kinds.specs.declared.finding.Finding.{Finding}
-use Rattle.finding_kinds.specs.declared.kind.Kind.{Kind}
-use Rattle.findings.specs.Findings.{IsReportOf}
-use Rattle.finding_kinds.specs.Kinds.{is_fault}
-use Rattle.finding_kinds.specs.Orders.{have_one_name}
 
 -- Whether a kind has the name of one of some kinds.
 abbrev pub is_among : List Kind → Kind → Bool
@@ -50,9 +38,7 @@ ExplainsRun bytes kinds allowed some =
 abbrev pub Unexplained : Setup → List Event → ReportFault → Type 0
 Unexplained s es (Schedule i n) = IsRefused s es i n
 Unexplained s es Memory = Unit {0}
-Unexplained s es Write = ⊥
-Unexplained s es (Script f) = ⊥
-Unexplained s es (Trace f) = ⊥
+Unexplained s es f = ⊥
 
 -- Why bytes are not explained: their first fault, the first refused event, or an allocation failure.
 abbrev pub UnexplainedRun : List ℕ → ReportFault → Type 0

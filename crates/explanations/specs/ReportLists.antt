@@ -1,7 +1,5 @@
 -- Findings with their sentences.
-use Rattle.std.specs.Prelude.{List, map}
-use Rattle.finding_kinds.specs.declared.finding.Finding.{Finding}
-use Rattle.explanations.specs.declared.reporting.Report.{Report}
+use Rattle.explanations.specs.Common.{List, map, Finding, Report}
 
 -- The findings, without their sentences.
 abbrev pub findings_in : List Report → List Finding

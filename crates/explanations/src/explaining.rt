@@ -1,8 +1,6 @@
 //! The `explain` subcommand: runs a script or a trace and reports its findings.
 ghost use Rattle.std.specs.Prelude.{◌≡◌, ◌≤◌, None, IfOk, IfErr, length};
-ghost use Rattle.std.specs.List.{list_any};
-ghost use Rattle.scenario.specs.Setups.{setup_refusal};
-ghost use Rattle.explanations.specs.Explained.{is_among, is_requested, is_fault_of, counts, Explains, ExplainsRun, Unexplained, UnexplainedRun};
+ghost use Rattle.explanations.specs.{Common.list_any, Common.setup_refusal, Explained.Explains, Explained.ExplainsRun, Explained.Unexplained, Explained.UnexplainedRun, Explained.counts, Explained.is_among, Explained.is_fault_of, Explained.is_requested};
 
 use crate::json::add_object;
 use finding_kinds::{Finding, Kind};
@@ -177,9 +175,7 @@ fn explain_events(
         history: &found.history,
         found: &found.findings,
     };
-    let Ok(text) = text_of(alloc, &run, request) else {
-        return Err(ReportFault::Memory);
-    };
+    let text = text_of(alloc, &run, request)?;
     let is_faulty = has_fault(request.kinds, request.allowed, &found.findings);
     Ok(Explanation { text, is_faulty })
 }
@@ -196,9 +192,6 @@ pub fn explain_run(
         request.entry.allowed.now e.is_faulty) }
     ensures err { IfErr result (UnexplainedRun bytes.now) }
 {
-    let run = match read_run(alloc, bytes) {
-        Ok(run) => run,
-        Err(fault) => return Err(ReportFault::from(fault)),
-    };
+    let run = read_run(alloc, bytes)?;
     explain_events(alloc, run.setup(), run.events(), request)
 }

@@ -1,7 +1,8 @@
 //! Findings as JSON objects.
 
+use crate::naming::json_of;
 use finding_kinds::Finding;
-use sentences::{Run, ThreadStep, sentence};
+use sentences::{Run, sentence};
 use serde::Serialize;
 use std::alloc::{AllocError, Global};
 
@@ -27,22 +28,12 @@ struct FindingObject<'a> {
     text: String,
 }
 
-fn json_of(alloc: Global, object: &FindingObject<'_>) -> Result<String, AllocError> {
-    match serde_json::to_string(alloc, object) {
-        Ok(json) => Ok(json),
-        Err(_) => Err(AllocError),
-    }
-}
-
 // Returns the put that wrote the entry of a request.
 fn put_of(run: &Run<'_>, number: u32) -> Option<PutObject> {
-    let ThreadStep {
-        thread,
-        instruction,
-    } = run.put_of(number)?;
+    let put = run.put_of(number)?;
     Some(PutObject {
-        thread,
-        instruction,
+        thread: put.thread,
+        instruction: put.instruction,
     })
 }
 

@@ -12,7 +12,8 @@ struct FaultObject<'a> {
     text: &'a str,
 }
 
-fn json_of<T: Serialize>(alloc: Global, value: &T) -> Result<String, AllocError> {
+/// Returns a value as JSON.
+pub(crate) fn json_of<T: Serialize>(alloc: Global, value: &T) -> Result<String, AllocError> {
     match serde_json::to_string(alloc, value) {
         Ok(json) => Ok(json),
         Err(_) => Err(AllocError),

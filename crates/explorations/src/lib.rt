@@ -4,6 +4,7 @@
 mod exploration;
 mod json;
 mod schedule;
+mod shell;
 mod text;
 
 pub use exploration::{Discovery, Exploration, SeenKind};

@@ -3,6 +3,7 @@
 use crate::exploration::{Discovery, Exploration, SeenKind};
 use crate::json::line_of;
 use crate::schedule::items_of;
+use crate::shell::add_path;
 use std::alloc::{AllocError, Global};
 
 /// The fewest runs for which the odds of missing a schedule are printed.
@@ -55,9 +56,13 @@ fn add_schedule(alloc: Global, out: &mut String, found: &Discovery<'_>) -> Resul
         return out.push('\n');
     };
     if let Some(kind) = found.kind {
-        out.push_str(format!(in alloc; "explain {path} --kind {kind}\n")?.as_str())?;
+        out.push_str("explain ")?;
+        add_path(out, path)?;
+        out.push_str(format!(in alloc; " --kind {kind}\n")?.as_str())?;
     }
-    out.push_str(format!(in alloc; "walk {path}\n")?.as_str())
+    out.push_str("walk ")?;
+    add_path(out, path)?;
+    out.push('\n')
 }
 
 // Returns the text of a search that found something.

@@ -2,12 +2,7 @@
 use Rattle.std.proofs.Common.{◌≡◌, ℕ, List, refl, sym, subst, arith, Option, Some, None, Bool, true, zero, suc, [], ◌∷◌, ◌++◌}
 use Rattle.std.specs.Prelude.{◌↔◌, IsTrue, is_some}
 use Rattle.std.proofs.lemmas.Bool.{false≢true}
-use Rattle.places.specs.declared.value.Change.{Change}
 use Rattle.scenario.specs.declared.event.Event.{Event}
-use Rattle.scenario.specs.declared.setup.Setup.{Setup}
-use Rattle.machine.specs.declared.whole.Machine.{Machine}
-use Rattle.machine.specs.Runs.{start, run, Linked}
-use Rattle.machine.proofs.LinkedRuns.{linked_runs}
 use Rattle.finding_kinds.specs.declared.finding.Finding.{Finding}
 use Rattle.sampling.proofs.Repeating.{repeatable}
 use Rattle.symptoms.specs.declared.symptom.Sighting.{Sighting}
@@ -19,10 +14,6 @@ use Rattle.exploring.specs.declared.random_runs.Worker.{Worker}
 use Rattle.exploring.specs.declared.random_runs.RandomRuns.{RandomRuns}
 use Rattle.exploring.specs.RandomRuns.{RunShows, IsRun, IsReady}
 use Rattle.exploring.specs.Trials.{IsLeast}
-
--- The records also lead back from the machine that the events lead to.
-pub linked_to_run : (m n : Machine) (es : List Event) (rs : List (List Change)) → Linked m es rs n → Linked m es rs (run m es)
-linked_to_run m n es rs l = let P : Machine → Type 0 = λ x. Linked m es rs x in subst P (linked_runs m n es rs l) l
 
 -- A run shows the symptom if it has a sighting.
 pub shown_if_sighted : (r : RandomRuns) (n : ℕ) (es : List Event) (x : Option Sighting) (fs : List Finding) → IsRun r n es x fs → IsTrue (is_some x) ↔ RunShows r n
@@ -43,12 +34,6 @@ found_sighted r n a b es x fs found q least e =
     let P : Option ℕ → Type 0 = λ f. IsLeast (RunShows r) a b f in
     let at : IsLeast (RunShows r) a b (Some n) = subst P e least in
     (shown_if_sighted r n es x fs q).1 at.2
-
--- The records of a prepared setup's run undo it.
-pub can_undo : (p s : Setup) (m : Machine) (es : List Event) (rs : List (List Change)) → p ≡ s → Linked (start p) es rs m → Linked (start s) es rs (run (start s) es)
-can_undo p s m es rs e l =
-    let P : Setup → Type 0 = λ x. Linked (start x) es rs (run (start x) es) in
-    subst P e (linked_to_run (start p) m es rs l)
 
 -- ---- Lanes
 

@@ -1,14 +1,17 @@
 -- The random runs of a program, and which of them show a symptom.
-use Rattle.std.specs.Prelude.{◌≡◌, ℕ, ◌<◌, ◌≤◌, List, Option, length, Bool, false, slice_get, if◌then◌else◌}
+use Rattle.std.specs.Prelude.{◌≡◌, ℕ, ◌<◌, ◌≤◌, List, Option, IfSome, length, take, Bool, false, slice_get, if◌then◌else◌}
 use Rattle.std.specs.Option.{option_map_or}
 use Rattle.std.specs.Int.{bit_at}
 use Rattle.std.specs.List.{list_any}
 use Rattle.scenario.specs.declared.event.Event.{Event}
-use Rattle.machine.specs.Runs.{start, run, Linked}
+use Rattle.scenario.specs.declared.setup.Setup.{Setup}
+use Rattle.machine.specs.Runs.{start, Linked}
 use Rattle.finding_kinds.specs.declared.finding.Finding.{Finding}
 use Rattle.finding_kinds.specs.declared.kind.Kind.{Kind}
 use Rattle.finding_kinds.specs.Orders.{have_one_name}
-use Rattle.sampling.specs.Samples.{IsSample}
+use Rattle.findings.specs.declared.searching.Search.{Search}
+use Rattle.findings.specs.Searching.{HasSearched}
+use Rattle.sampling.specs.Samples.{IsSample, IsOpening}
 use Rattle.symptoms.specs.declared.symptom.Sighting.{Sighting}
 use Rattle.symptoms.specs.Symptoms.{Shows, IsFirst, AreConclusive}
 use Rattle.exploring.specs.declared.outcome.Outcome.{Outcome}
@@ -56,11 +59,25 @@ pub record CanRun (r : RandomRuns) : Type 0 where
   pub most : r.options.most ≤ 65536
   pub kinds : length r.kinds.now ≤ 64
 
--- A worker is at the start of the program.
+-- A search has seen the first n events of a run.
+abbrev pub HasSearchedBy : Setup → List Event → ℕ → Search → Type 0
+HasSearchedBy s es n x = HasSearched s es n x.found.items x.numbers.items x.watches.items
+    x.files.writes.items x.files.suspects.items x.files.retried.items
+
+-- The last run of a worker begins with an opening of the program, which its search has seen. The
+-- records of the run lead back from the worker's state to the start of the program.
 pub record IsReady (r : RandomRuns) (w : Worker) : Type 0 where
   pub runs : CanRun r
-  pub at_start : w.state ≡ start r.setup.now
+  pub linked : Linked (start r.setup.now) w.sample.events.items w.sample.records.items w.state
+  pub within : w.opening ≤ length w.sample.events.items
+  pub opening : IsOpening r.setup.now r.options (take w.opening w.sample.events.items)
+  pub seen : IfSome w.search (HasSearchedBy r.setup.now (take w.opening w.sample.events.items) w.opening)
 
--- The records of a worker's sample undo the run of its events.
-abbrev pub CanUndo : RandomRuns → Worker → Type 0
-CanUndo r w = Linked (start r.setup.now) w.sample.events.items w.sample.records.items (run (start r.setup.now) w.sample.events.items)
+-- The worker is at the end of the opening.
+pub record IsOpened (r : RandomRuns) (w : Worker) : Type 0 where
+  pub ready : IsReady r w
+  pub whole : IsOpening r.setup.now r.options w.sample.events.items
+
+-- A search has seen all events of the worker.
+abbrev pub HasSeen : RandomRuns → Worker → Search → Type 0
+HasSeen r w x = HasSearchedBy r.setup.now w.sample.events.items (length w.sample.events.items) x

@@ -2,14 +2,12 @@
 //! one that shows a symptom is found.
 #![tactic(auto)]
 
-mod discovering;
 mod experiment;
 mod lanes;
 mod outcome;
 mod random_runs;
 mod search;
 
-pub use discovering::{Discovery, Searched, discover};
 pub use experiment::Experiment;
 pub use lanes::Lane;
 pub use outcome::{Outcome, Totals};

@@ -1,19 +1,22 @@
 //! The random runs of a program, of which some may show a symptom.
-ghost use Rattle.std.specs.Prelude.{◌≡◌, ◌≢◌, ◌<◌, ◌≤◌, ℕ, length, vec_len, All, OnOk, IfOk, if◌then◌else◌};
+ghost use Rattle.std.specs.Prelude.{◌≡◌, ◌≢◌, ◌<◌, ◌≤◌, [], ℕ, None, length, vec_len, All, OnOk, IfOk, if◌then◌else◌};
 ghost use Rattle.std.specs.Int.{bit_at};
 ghost use Rattle.machine.specs.Runs.{start};
-ghost use Rattle.symptoms.specs.Symptoms.{IsFirst, AreConclusive};
+ghost use Rattle.runs.specs.Moments.{IsAt};
+ghost use Rattle.sampling.specs.Samples.{StaysSeen};
 ghost use Rattle.exploring.specs.RandomRuns.{SaysKinds, has_kind};
 
 use crate::experiment::Experiment;
 use crate::lanes::Lane;
 use crate::outcome::Outcome;
 use finding_kinds::{Finding, Kind};
+use findings::Search;
 use machine::State;
-use sampling::{Program, Sample, SampleOptions, sample, undo};
+use runs::Observer;
+use sampling::{Program, Sample, SampleOptions, begin, rewind, sample, undo};
 use scenario::Setup;
 use std::alloc::{AllocError, Global};
-use symptoms::{Examined, Symptom, examine};
+use symptoms::{Examined, Symptom, examine, examined_by};
 
 /// The random runs of a program, and the symptom that they are searched for.
 #[derive(Clone, Copy)]
@@ -29,11 +32,16 @@ pub struct RandomRuns<'a> {
     pub kinds: &'a [Kind],
 }
 
-/// What a thread makes its runs with. The state is at the start between runs.
+/// What a thread makes its runs with.
 pub struct Worker {
+    /// The state after the last run.
     pub state: State,
     /// The last run.
     pub sample: Sample,
+    // The number of the events with which each run begins.
+    opening: usize,
+    // A search that has seen these events, once there is one.
+    search: Option<Search>,
 }
 
 // Written by hand, so that dropping a worker is one step of a proof.
@@ -42,6 +50,8 @@ impl Drop for Worker {
         let Worker {
             state: _,
             sample: _,
+            opening: _,
+            search: _,
         } = self;
     }
 }
@@ -49,12 +59,18 @@ impl Drop for Worker {
 impl Worker {
     /// Returns a worker that has made no run.
     pub fn new(alloc: Global, setup: &Setup) -> Result<Worker, AllocError>
-        ensures { IfOk result (λ worker. worker.state ≡ start setup.now) }
+        ensures start { IfOk result (λ worker. worker.state ≡ start setup.now) }
+        ensures events { IfOk result (λ worker. worker.sample.events.items ≡ []) }
+        ensures records { IfOk result (λ worker. worker.sample.records.items ≡ []) }
+        ensures opening { IfOk result (λ worker. worker.opening ≡ 0) }
+        ensures search { IfOk result (λ worker. worker.search ≡ None) }
     {
         match State::new(alloc, setup) {
             Ok(state) => Ok(Worker {
                 state,
                 sample: Sample::new(alloc),
+                opening: 0,
+                search: None,
             }),
             Err(_) => Err(AllocError),
         }
@@ -62,7 +78,7 @@ impl Worker {
 }
 
 impl RandomRuns<'_> {
-    ghost use Rattle.exploring.specs.RandomRuns.{CanRun, HasEvents, IsRun, IsReady, CanUndo};
+    ghost use Rattle.exploring.specs.RandomRuns.{CanRun, HasEvents, IsRun, IsReady, IsOpened, HasSeen};
 
     /// Returns `count` lanes whose workers have made no run.
     pub fn lanes(&self, count: usize) -> Result<Vec<Lane<Worker>>, AllocError>
@@ -78,23 +94,112 @@ impl RandomRuns<'_> {
         Ok(lanes)
     }
 
-    /// Makes run `number`, and searches it for the symptom. Leaves the events in the worker.
+    /// Makes run `number`, and searches it for the symptom as it goes. Leaves the events in the
+    /// worker.
     pub fn examine_run(&self, worker: &mut Worker, number: u32) -> Result<Examined, AllocError>
         requires { IsReady self.now worker.old }
         ensures ready { OnOk result (IsReady self.now worker.new) }
         ensures run { IfOk result (λ examined. IsRun self.now number worker.new.sample.events.items
             examined.sighting examined.findings.items) }
     {
-        self.make(worker, number)?;
-        self.look(worker)
+        match &self.symptom {
+            Symptom::Finding(wanted) => {
+                let mut search = self.opened(worker)?;
+                self.make(worker, number, &mut search)?;
+                let events = &worker.sample.events;
+                examined_by(search, self.setup, events, &worker.state, wanted)
+            }
+            Symptom::Reaches(_, _) => self.look(worker, number),
+        }
     }
 
-    // Makes run `number`, and returns to the start.
-    fn make(&self, worker: &mut Worker, number: u32) -> Result<(), AllocError>
+    // Makes run `number`, and then steps it again and looks for the symptom.
+    fn look(&self, worker: &mut Worker, number: u32) -> Result<Examined, AllocError>
         requires { IsReady self.now worker.old }
         ensures ready { OnOk result (IsReady self.now worker.new) }
+        ensures run { IfOk result (λ examined. IsRun self.now number worker.new.sample.events.items
+            examined.sighting examined.findings.items) }
+    {
+        self.restart(worker);
+        self.make(worker, number, &mut ())?;
+        undo(&mut worker.state, &worker.sample);
+        match examine(
+            self.alloc,
+            &mut worker.state,
+            self.setup,
+            &worker.sample.events,
+            &self.symptom,
+        ) {
+            Ok(examined) => Ok(examined),
+            Err(_) => Err(AllocError),
+        }
+    }
+
+    // Returns to the start of the program.
+    fn restart(&self, worker: &mut Worker)
+        requires { IsReady self.now worker.old }
+        ensures opened { IsOpened self.now worker.new }
+        ensures none { worker.new.sample.events.items ≡ [] }
+        ensures start { worker.new.state ≡ start self.now.setup.now }
+    {
+        rewind(&mut worker.state, &mut worker.sample, 0);
+        worker.opening = 0;
+        worker.search = None;
+    }
+
+    // Returns to the end of the opening, and returns a search that has seen the opening.
+    fn opened(&self, worker: &mut Worker) -> Result<Search, AllocError>
+        requires { IsReady self.now worker.old }
+        ensures opening { OnOk result (IsOpened self.now worker.new) }
+        ensures seen { IfOk result (HasSeen self.now worker.new) }
+    {
+        match &worker.search {
+            Some(search) => {
+                rewind(&mut worker.state, &mut worker.sample, worker.opening);
+                let copy = search.copy(self.alloc)?;
+                Ok(copy)
+            }
+            None => self.open(worker),
+        }
+    }
+
+    // Makes the opening, and returns a search that has seen it.
+    fn open(&self, worker: &mut Worker) -> Result<Search, AllocError>
+        requires { IsReady self.now worker.old }
+        ensures opening { OnOk result (IsOpened self.now worker.new) }
+        ensures seen { IfOk result (HasSeen self.now worker.new) }
+    {
+        self.restart(worker);
+        let mut search = Search::without_history(self.alloc, self.setup, &worker.state)?;
+        begin(
+            &mut worker.state,
+            self.program,
+            self.options,
+            &mut worker.sample,
+            &mut search,
+        )?;
+        worker.opening = worker.sample.events.len();
+        worker.search = Some(search.copy(self.alloc)?);
+        Ok(search)
+    }
+
+    // Continues the opening, so that it is run `number`.
+    fn make<O: Observer>(
+        &self,
+        worker: &mut Worker,
+        number: u32,
+        observer: &mut O,
+    ) -> Result<(), AllocError>
+        requires opened { IsOpened self.now worker.old }
+        requires stays { StaysSeen O.has_seen self.now.setup.now }
+        requires seen { O.has_seen observer.old self.now.setup.now worker.old.sample.events.items
+            (length worker.old.sample.events.items) }
+        ensures ready { OnOk result (IsReady self.now worker.new) }
         ensures events { OnOk result (HasEvents self.now number worker.new.sample.events.items) }
-        ensures undo { OnOk result (CanUndo self.now worker.new) }
+        ensures at { OnOk result (IsAt self.now.setup.now worker.new.sample.events.items
+            (length worker.new.sample.events.items) worker.new.state) }
+        ensures seen { OnOk result (O.has_seen observer.new self.now.setup.now
+            worker.new.sample.events.items (length worker.new.sample.events.items)) }
     {
         sample(
             &mut worker.state,
@@ -103,35 +208,9 @@ impl RandomRuns<'_> {
             self.seed,
             number,
             &mut worker.sample,
+            observer,
         )?;
-        undo(&mut worker.state, &worker.sample);
         Ok(())
-    }
-
-    // Searches the run that was made for the symptom, and returns to the start.
-    fn look(&self, worker: &mut Worker) -> Result<Examined, AllocError>
-        requires ready { IsReady self.now worker.old }
-        requires undo { CanUndo self.now worker.old }
-        requires most { length worker.old.sample.events.items ≤ 65536 }
-        ensures ready { OnOk result (IsReady self.now worker.new) }
-        ensures events { worker.new.sample.events.items ≡ worker.old.sample.events.items }
-        ensures sighting { IfOk result (λ examined. IsFirst self.now.setup.now
-            worker.old.sample.events.items self.now.symptom examined.sighting) }
-        ensures findings { IfOk result (λ examined. AreConclusive self.now.setup.now
-            worker.old.sample.events.items examined.findings.items) }
-    {
-        let examined = match examine(
-            self.alloc,
-            &mut worker.state,
-            self.setup,
-            &worker.sample.events,
-            &self.symptom,
-        ) {
-            Ok(examined) => examined,
-            Err(_) => return Err(AllocError),
-        };
-        undo(&mut worker.state, &worker.sample);
-        Ok(examined)
     }
 }
 

@@ -1,8 +1,6 @@
 -- The next request after a given one in the submission order.
 use Rattle.std.specs.Prelude.{ℕ, ◌+◌, false, if◌then◌else◌, slice_get, List}
-use Rattle.std.specs.Option.{option_map_or}
-use Rattle.entries.specs.declared.row.Row.{Row}
-use Rattle.links_drains.specs.Links.{is_guard}
+use Rattle.finding_kinds.specs.Common.{option_map_or, Row, is_guard}
 
 -- How far the next request is after request r: 2 if a linked timeout (IORING_OP_LINK_TIMEOUT) is
 -- between them, else 1.

@@ -1,16 +1,6 @@
 -- The kinds of findings: which are faults, what they are about, and which share a name.
-use Rattle.std.specs.Prelude.{Bool, true, false}
-use Rattle.finding_kinds.specs.declared.kind.Kind.{Kind}
-use Rattle.finding_kinds.specs.declared.kind.Kind.TheVariants.{Ended, Lasting, Left, Conflict, Step, Queued, Cancel, TimespecInUse, FsyncRetried}
-use Rattle.finding_kinds.specs.declared.kind.Verdict.{Verdict}
-use Rattle.finding_kinds.specs.declared.kind.Verdict.TheVariants.{Fault, Note}
-use Rattle.finding_kinds.specs.declared.kind.EndedKind.TheVariants.{Short, Canceled, TimedOut, Expired, NotFound, TooLate, WentOn}
-use Rattle.finding_kinds.specs.declared.kind.LastingKind.TheVariants.{Waits, LostWakeUp, NotTaken, NotReaped, Stuck}
-use Rattle.finding_kinds.specs.declared.kind.LeftKind.TheVariants.{Unfinished, NotDurable}
-use Rattle.finding_kinds.specs.declared.kind.ConflictKind.TheVariants.{BufferInUse, FsyncEarly}
-use Rattle.finding_kinds.specs.declared.kind.StepKind.TheVariants.{ClosedWhileHeld}
-use Rattle.finding_kinds.specs.declared.kind.QueuedKind.TheVariants.{CutOff, NoEffect, SameUserData}
-use Rattle.finding_kinds.specs.declared.kind.CancelKind.TheVariants.{NoneFound, Several, LeftRunning}
+use Rattle.finding_kinds.specs.Common.{Bool, true, false, Kind, Ended, Lasting, Left, Conflict, Queued, Cancel, TimespecInUse, FsyncRetried, Verdict, Fault, Note, Short, Canceled, TimedOut, Expired, NotFound, TooLate, WentOn, Waits, LostWakeUp, NotTaken, NotReaped, Stuck, Unfinished, NotDurable, BufferInUse, FsyncEarly, ClosedWhileHeld, CutOff, NoEffect, SameUserData, NoneFound}
+use Rattle.finding_kinds.specs.declared.kind.Kind.TheVariants.{Step}
 
 -- Whether the verdict is that something was lost, corrupted, or hangs.
 abbrev pub is_bad : Verdict → Bool

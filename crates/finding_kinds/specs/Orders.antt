@@ -1,12 +1,8 @@
 -- The order of findings, and kinds by their names.
-use Rattle.std.specs.Prelude.{Bool}
-use Rattle.std.specs.declared.cmp.Ordering.{Ordering}
-use Rattle.std.specs.Ordering.{nat_cmp, ordering_then}
-use Rattle.finding_kinds.specs.declared.finding.Finding.{Finding}
-use Rattle.finding_kinds.specs.declared.kind.Kind.{Kind}
+use Rattle.finding_kinds.specs.Common.{Bool, Ordering, nat_cmp, ordering_then, Finding, Kind}
+use Rattle.finding_kinds.specs.Kinds.{first_named}
 use Rattle.finding_kinds.specs.contracts.kind.KindOrd.TheImpl as ordered
 use Rattle.finding_kinds.specs.contracts.kind.KindPartialEq.TheImpl as compared
-use Rattle.finding_kinds.specs.Kinds.{first_named}
 
 -- Kinds are ordered by group, then by their place in the group, as their enums list them.
 abbrev pub kind_order : Kind → Kind → Ordering

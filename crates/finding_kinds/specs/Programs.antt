@@ -1,10 +1,5 @@
 -- The instructions of the threads' programs.
-use Rattle.std.specs.Prelude.{ℕ, Option, Some, None, slice_get}
-use Rattle.std.specs.Option.{option_and_then}
-use Rattle.scenario.specs.declared.event.Event.{Event}
-use Rattle.scenario.specs.declared.event.Event.TheVariants.{Step}
-use Rattle.scenario.specs.declared.setup.Instruction.{Instruction}
-use Rattle.scenario.specs.declared.setup.Setup.{Setup}
+use Rattle.finding_kinds.specs.Common.{ℕ, Option, Some, None, slice_get, option_and_then, Event, Step, Instruction, Setup}
 
 -- The instruction at a program counter of the thread whose step the event is. None for any other
 -- event.

@@ -1,7 +1,6 @@
 -- Typed values of places.
 use Rattle.std.specs.Prelude.{ℕ, ◌==◌, Bool, false, not, Option, Some, None}
-use Rattle.places.specs.declared.value.Value.{Value}
-use Rattle.places.specs.declared.value.Value.TheVariants.{Number, Byte}
+use Rattle.finding_kinds.specs.Common.{Value, Number, Byte}
 
 -- The number in an optional value.
 abbrev pub number_in : Option Value → Option ℕ

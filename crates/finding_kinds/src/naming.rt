@@ -1,7 +1,6 @@
 //! Kinds by their names.
 ghost use Rattle.std.specs.Prelude.{◌≡◌};
-ghost use Rattle.finding_kinds.specs.Kinds.{first_named};
-ghost use Rattle.finding_kinds.specs.Orders.{have_one_name};
+ghost use Rattle.finding_kinds.specs.{Kinds.first_named, Orders.have_one_name};
 
 use crate::kind::{
     CancelKind, ConflictKind, EndedKind, Kind, LastingKind, LeftKind, QueuedKind, StepKind, Verdict,

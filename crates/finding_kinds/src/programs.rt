@@ -1,7 +1,6 @@
 //! The instructions of the threads' programs.
 ghost use Rattle.std.specs.Prelude.{◌≡◌};
-ghost use Rattle.std.specs.Option.{option_copied};
-ghost use Rattle.finding_kinds.specs.Programs.{instruction_at};
+ghost use Rattle.finding_kinds.specs.{Common.option_copied, Programs.instruction_at};
 
 use machine::{Event, Instruction, Setup};
 

@@ -1,8 +1,6 @@
 //! Typed values of places.
 ghost use Rattle.std.specs.Prelude.{◌≡◌};
-ghost use Rattle.places.specs.declared.place.Place.TheVariants.{FileByte, DurableByte};
-ghost use Rattle.machine.specs.Whole.{view, WellFormed};
-ghost use Rattle.finding_kinds.specs.Values.{number_in, byte_in, differ};
+ghost use Rattle.finding_kinds.specs.{Common.DurableByte, Common.FileByte, Common.WellFormed, Common.view, Values.byte_in, Values.differ, Values.number_in};
 
 use machine::State;
 use places::{Place, Value};

@@ -1,17 +1,5 @@
 -- Searching the incomplete requests for one with the same user_data.
-use Rattle.std.proofs.Common.{◌≡◌, inl, inr, ℕ, ◌<◌, ◌≤◌, ◌+◌, ◌-◌, Bool, true, false, List, refl, sym, ap, ◌∙◌, arith}
-use Rattle.std.proofs.lemmas.Bool.{and_from, and_left, cases_lt, lt-ltb, ne_eqb}
-use Rattle.std.proofs.lemmas.Bool.Decides.{nat_tests}
-use Rattle.std.specs.Prelude.{Option, Some, option_map, slice_get, nat_lt, nat_le, not, ◌==◌, ◌&&◌}
-use Rattle.std.specs.Option.{option_map_or}
-use Rattle.std.specs.List.{enumerate_from}
-use Rattle.entries.specs.declared.row.Row.{Row}
-use Rattle.links_drains.specs.Numbered.{any_numbered, IsNextWhere, NoneWhere}
-use Rattle.links_drains.specs.Units.{is_open}
-use Rattle.links_drains.proofs.Chains.{enumerated}
-use Rattle.links_drains.proofs.RestOfUnit.{numbered}
-use Rattle.links_drains.proofs.Units.{any_true, any_false}
-use Rattle.findings.specs.Endings.{is_twin, has_twin}
+use Rattle.findings.proofs.Common.{and_right, ◌≡◌, ℕ, ◌<◌, ◌≤◌, ◌+◌, ◌-◌, Bool, true, false, List, Option, Some, option_map, slice_get, nat_lt, nat_le, not, ◌==◌, ◌&&◌, option_map_or, enumerate_from, Row, any_numbered, IsNextWhere, NoneWhere, is_open, inl, inr, sym, ap, ◌∙◌, arith, and_from, and_left, cases_lt, lt-ltb, ne_eqb, nat_tests, enumerated, numbered, any_true, any_false, is_twin, has_twin}
 
 -- Whether request q has a given user_data.
 abbrev has_user : List Row → ℕ → ℕ → Bool
@@ -32,17 +20,10 @@ abbrev pub NoTwin : List Row → ℕ → ℕ → ℕ → Type 0
 NoTwin rows r user k = (q : ℕ) (x : Row) → q < k → slice_get rows q ≡ Some x → is_twin r user q x ≡ false
 
 not_second : (a b c : Bool) → b ≡ false → (a && (b && c)) ≡ false
-not_second true b c e = and_left b c e
-not_second false b c e = refl
+not_second a b c e = and_right a (b && c) (and_left b c e)
 
 not_third : (a b c : Bool) → c ≡ false → (a && (b && c)) ≡ false
-not_third true true c e = e
-not_third true false c e = refl
-not_third false b c e = refl
-
-none_anywhere : (a b : Bool) → b ≡ false → (a && b) ≡ false
-none_anywhere true b e = e
-none_anywhere false b e = refl
+not_third a b c e = and_right a (b && c) (and_right b c e)
 
 has_user_at : (rows : List Row) (user q : ℕ) (x : Row) → slice_get rows q ≡ Some x → has_user rows user q ≡ (x.entry.user_data == user)
 has_user_at rows user q x e = ap (λ (o : Option Row). option_map_or (λ (row : Row). row.entry.user_data == user) o false) e
@@ -79,11 +60,11 @@ not_near q r l = grind (arith, nat_tests, l)
 
 -- Requests more than 32 before request r are no twins.
 pub twins_near : (rows : List Row) (r user from : ℕ) → from ≤ r - 32 → NoTwin rows r user from
-twins_near rows r user from l q x b e = and_left _ _ (none_anywhere (nat_lt q r) (nat_le r (q + 32)) (not_near q r (omega (arith, l, b))))
+twins_near rows r user from l q x b e = and_left _ _ (and_right (nat_lt q r) (nat_le r (q + 32)) (not_near q r (omega (arith, l, b))))
 
 -- If the next incomplete request is not before request r, there is no twin.
 pub twin_past : (rows : List Row) (r from q : ℕ) (row : Row) → NoTwin rows r row.entry.user_data from → IsNextWhere is_open rows from q → r ≤ q → has_twin rows r row ≡ false
-twin_past rows r from q row none next l = none_anywhere _ _ (no_twin rows r row (λ k x e.
+twin_past rows r from q row none next l = and_right _ _ (no_twin rows r row (λ k x e.
     elim (cases_lt k from) [
       | inl before ↦ none k x before e
       | inr above ↦ elim (cases_lt k q) [
@@ -94,7 +75,7 @@ twin_past rows r from q row none next l = none_anywhere _ _ (no_twin rows r row 
 
 -- If no request is incomplete from there on, there is no twin.
 pub twin_none : (rows : List Row) (r from : ℕ) (row : Row) → NoTwin rows r row.entry.user_data from → NoneWhere is_open rows from → has_twin rows r row ≡ false
-twin_none rows r from row none absent = none_anywhere _ _ (no_twin rows r row (λ k x e.
+twin_none rows r from row none absent = and_right _ _ (no_twin rows r row (λ k x e.
     elim (cases_lt k from) [
       | inl before ↦ none k x before e
       | inr above ↦ not_second (is_near r k) (is_open x) (x.entry.user_data == row.entry.user_data) (absent k x above e)

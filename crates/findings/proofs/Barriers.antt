@@ -1,15 +1,6 @@
 -- Searching for a draining chain between two requests, request by request.
-use Rattle.std.proofs.Common.{◌≡◌, inl, inr, ℕ, ◌<◌, ◌≤◌, ◌+◌, true, false, List, length, sym, ap, ◌∙◌, arith}
-use Rattle.std.proofs.lemmas.Option.{same_Some}
-use Rattle.std.proofs.lemmas.Bool.{cases_lt, and_parts, ltb-true}
-use Rattle.std.specs.Prelude.{Some, slice_get, nat_lt, ◌&&◌}
-use Rattle.entries.specs.declared.row.Row.{Row}
-use Rattle.links_drains.specs.Eligible.{drains}
-use Rattle.links_drains.specs.Links.{Chained}
-use Rattle.links_drains.specs.Units.{is_open}
-use Rattle.links_drains.proofs.Units.{any_true, any_false}
-use Rattle.findings.specs.Conflicts.{is_between, is_after_barrier}
-use Rattle.findings.proofs.Draining.{by_bool, none_past}
+use Rattle.findings.proofs.Common.{false_from_ne_true, ◌≡◌, ℕ, ◌<◌, ◌≤◌, ◌+◌, true, false, List, length, Some, slice_get, nat_lt, ◌&&◌, Row, drains, Chained, is_open, inl, inr, sym, ap, ◌∙◌, arith, same_Some, cases_lt, and_parts, ltb-true, any_true, any_false, is_between, is_after_barrier}
+use Rattle.findings.proofs.Draining.{none_past}
 
 -- No request from the start of the other's chain up to number k is between the two.
 abbrev pub NoneBetween : List Row → Row → Row → ℕ → Type 0
@@ -21,7 +12,7 @@ between_found rows row other x k e h = any_true (is_between rows row other) rows
 -- A request before the start of the other's chain belongs to an earlier chain.
 earlier_chain : (rows : List Row) (row other x : Row) (j : ℕ) → Chained rows → slice_get rows j ≡ Some x → j < other.unit → is_between rows row other x ≡ false
 earlier_chain rows row other x j c e l =
-    by_bool (is_between rows row other x) (λ t.
+    false_from_ne_true (is_between rows row other x) (λ t.
     let units = (and_parts (nat_lt other.unit x.unit && nat_lt x.unit row.unit) (is_open x && drains rows x.unit) t).0 in
     let up : other.unit < x.unit = ltb-true other.unit x.unit (and_parts (nat_lt other.unit x.unit) (nat_lt x.unit row.unit) units).0 in
     let low : x.unit ≤ j = c.back j x e in

@@ -1,25 +1,6 @@
 -- The followed numbers include every incomplete READ and WRITE, record by record.
-use Rattle.std.proofs.Common.{◌≡◌, inl, inr, ℕ, Bool, true, false, cond, List, [], ◌∷◌, refl, sym, ap, ◌∙◌, subst}
-use Rattle.std.proofs.lemmas.Bool.{eqb-true}
-use Rattle.std.specs.Prelude.{Option, Some, None, slice_get, not, ◌==◌}
-use Rattle.std.specs.Option.{option_map_or}
-use Rattle.std.specs.List.{filter}
-use Rattle.entries.specs.declared.row.Row.{Row}
-use Rattle.places.specs.declared.place.Place.{Place}
-use Rattle.places.specs.declared.place.Place.TheVariants.{Request}
-use Rattle.places.specs.declared.value.Value.{Value}
-use Rattle.places.specs.declared.value.Change.{Change}
-use Rattle.places.specs.View.{View, Exact, named}
-use Rattle.machine.specs.declared.whole.Machine.{Machine}
-use Rattle.machine.specs.Whole.{view}
-use Rattle.findings.specs.Conflicts.{is_candidate}
-use Rattle.findings.specs.Records.{is_candidate_in, followed, after_note, after_notes, Covers}
-use Rattle.findings.proofs.Members.{Has, has_left, has_right, has_contains, contains_has}
-use Rattle.findings.proofs.Notes.{change_there}
-use Rattle.findings.proofs.Shown.{row_in_requested}
-
-false_true : false ≡ true → ⊥
-false_true e = cc
+use Rattle.findings.proofs.Common.{◌≡◌, ℕ, Bool, true, false, cond, List, [], ◌∷◌, refl, Option, Some, None, slice_get, not, ◌==◌, option_map_or, filter, Row, Place, Request, Value, Change, View, Exact, Machine, view, inl, inr, sym, ap, ◌∙◌, subst, eqb-true, clash, named, is_candidate, is_candidate_in, followed, after_note, after_notes, Covers}
+use Rattle.findings.proofs.{Members.Has, Members.contains_has, Members.has_contains, Members.has_left, Members.has_right, Notes.change_there, Shown.row_in_requested}
 
 has_filter : (ns : List ℕ) (r q : ℕ) → Has ns q → (r ≡ q → ⊥) → Has (filter (λ k. not (k == r)) ns) q
 has_filter [] r q h g = absurd h
@@ -34,14 +15,13 @@ has_filter (n ∷ ns) r q h g = by (n == r) refl h (λ m. has_filter ns r q m g)
 followed_keeps : (ns : List ℕ) (r q : ℕ) (was is : Bool) → Has ns q → (r ≡ q → is ≡ true) → Has (followed ns r was is) q
 followed_keeps ns r q true true h g = h
 followed_keeps ns r q false true h g = has_left ns (r ∷ []) q h
-followed_keeps ns r q true false h g = has_filter ns r q h (λ e. false_true (g e))
+followed_keeps ns r q true false h g = has_filter ns r q h (λ e. clash (g e))
 followed_keeps ns r q false false h g = h
 
 followed_new : (ns : List ℕ) (q : ℕ) (was is : Bool) → was ≡ false → is ≡ true → Has (followed ns q was is) q
 followed_new ns q false true w i = has_right ns (q ∷ []) q (inl refl)
-followed_new ns q true true w i = absurd (false_true (sym w))
-followed_new ns q true false w i = absurd (false_true i)
-followed_new ns q false false w i = absurd (false_true i)
+followed_new ns q true is w i = absurd (clash (sym w))
+followed_new ns q false false w i = absurd (clash i)
 
 -- A number that is followed stays so while its request is incomplete.
 note_keeps : (v : View) (ns : List ℕ) (x : Option Value) (p : Place) (q : ℕ) → Has ns q → is_candidate_in (v (Request q)) ≡ true → Has (after_note v ns x p) q
@@ -81,4 +61,4 @@ covers_more before after cs ns now h x e = λ q c.
     has_contains now q (subst (λ (ks : List ℕ). Has ks q) (sym e) (covers_view (view before) (view after) cs ns x earlier q (seen_alike after q ∙ c)))
 
 pub covers_none : (ns : List ℕ) → Covers [] ns
-covers_none ns = λ q c. absurd (false_true c)
+covers_none ns = λ q c. absurd (clash c)

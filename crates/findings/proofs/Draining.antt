@@ -1,12 +1,5 @@
 -- Searching a chain for a request with IOSQE_IO_DRAIN, request by request.
-use Rattle.std.proofs.Common.{◌≡◌, inl, inr, ℕ, ◌<◌, ◌≤◌, Bool, true, false, List, length, refl, sym, ◌∙◌, arith}
-use Rattle.std.proofs.lemmas.Option.{none-some, slice_get_past}
-use Rattle.std.proofs.lemmas.Bool.{cases_lt, and_parts, and_from, eqb-true, eq-eqb}
-use Rattle.std.specs.Prelude.{Some, slice_get, ◌==◌, ◌&&◌}
-use Rattle.entries.specs.declared.row.Row.{Row}
-use Rattle.links_drains.specs.Eligible.{drains}
-use Rattle.links_drains.specs.Links.{has_drain_flag, Chained}
-use Rattle.links_drains.proofs.Units.{any_true, any_false}
+use Rattle.findings.proofs.Common.{false_from_ne_true, ◌≡◌, ℕ, ◌<◌, ◌≤◌, Bool, true, false, List, length, Some, slice_get, ◌==◌, ◌&&◌, Row, drains, has_drain_flag, Chained, inl, inr, sym, ◌∙◌, arith, none-some, slice_get_past, cases_lt, and_parts, and_from, eqb-true, eq-eqb, any_true, any_false}
 
 abbrev pub is_draining : ℕ → Row → Bool
 is_draining unit row = (row.unit == unit) && has_drain_flag row
@@ -18,12 +11,8 @@ NoneDrains rows unit k = (j : ℕ) (row : Row) → unit ≤ j → j < k → slic
 pub drains_found : (rows : List Row) (k unit : ℕ) (row : Row) → slice_get rows k ≡ Some row → row.unit ≡ unit → has_drain_flag row ≡ true → drains rows unit ≡ true
 drains_found rows k unit row e u a = any_true (is_draining unit) rows k row e (and_from (row.unit == unit) (has_drain_flag row) (eq-eqb row.unit unit u) a)
 
-pub by_bool : (b : Bool) → (b ≡ true → ⊥) → b ≡ false
-by_bool true h = absurd (h refl)
-by_bool false h = refl
-
 not_draining : (unit : ℕ) (row : Row) → (row.unit ≡ unit → ⊥) → is_draining unit row ≡ false
-not_draining unit row g = by_bool (is_draining unit row) (λ t. g (eqb-true row.unit unit (and_parts (row.unit == unit) (has_drain_flag row) t).0))
+not_draining unit row g = false_from_ne_true (is_draining unit row) (λ t. g (eqb-true row.unit unit (and_parts (row.unit == unit) (has_drain_flag row) t).0))
 
 -- A request before the start of a chain belongs to another.
 earlier : (rows : List Row) (unit j : ℕ) (row : Row) → Chained rows → slice_get rows j ≡ Some row → j < unit → is_draining unit row ≡ false

@@ -1,25 +1,7 @@
 -- Whether a file is durable, read from the values of its places.
-use Rattle.std.proofs.Common.{◌≡◌, ℕ, zero, suc, ◌<◌, ◌≤◌, Bool, true, false, List, [], ◌∷◌, length, take, refl, sym, ap, ◌∙◌, arith}
-use Rattle.std.proofs.lemmas.Bool.{eqb-true, eq-eqb}
-use Rattle.std.proofs.lemmas.List.{length-take-le}
-use Rattle.std.proofs.lemmas.Option.{same_Some, none-some}
-use Rattle.std.proofs.lemmas.Slice.Eq.{bytes_eq-Decides}
-use Rattle.std.specs.Bool.{MatchBool}
-use Rattle.std.specs.Prelude.{Option, Some, None, option_map, slice_get, not, nat_lt, nat_le, ◌==◌, ◌&&◌, ◌||◌}
-use Rattle.std.specs.Option.{option_map_or, option_and_then}
-use Rattle.std.specs.Str.{bytes_eq}
-use Rattle.places.proofs.ListLemmas.{slice_get-take_below}
-use Rattle.places.specs.declared.place.Place.TheVariants.{FileByte, DurableByte, FileLength, DurableLength}
-use Rattle.places.specs.declared.value.Value.TheVariants.{Byte}
-use Rattle.model_files.specs.declared.body.Body.{Body}
-use Rattle.model_files.specs.declared.body.Body.TheVariants.{File, Pipe, EventFd}
-use Rattle.model_files.specs.Files.{FileState, FileSized, content, durable_content}
-use Rattle.model_files.specs.Worlds.{body_seen, file_in}
-use Rattle.machine.specs.declared.whole.Machine.{Machine}
-use Rattle.machine.specs.Whole.{view, WellFormed}
-use Rattle.findings.specs.Conditions.{is_unsynced, has_unsynced}
-use Rattle.findings.specs.Durability.{is_volatile, is_volatile_at}
-use Rattle.finding_kinds.specs.Values.{number_in, byte_in, differ}
+use Rattle.findings.proofs.Common.{◌≡◌, ℕ, zero, suc, ◌<◌, ◌≤◌, Bool, true, false, List, [], ◌∷◌, length, take, refl, MatchBool, Option, Some, None, option_map, slice_get, not, nat_lt, nat_le, ◌==◌, ◌&&◌, ◌||◌, option_map_or, option_and_then, bytes_eq, FileByte, DurableByte, FileLength, DurableLength, Byte, Body, FileState, FileSized, content, durable_content, body_seen, file_in, Machine, view, WellFormed, byte_in, differ, sym, ap, ◌∙◌, arith, eqb-true, eq-eqb, length-take-le, same_Some, none-some, bytes_eq-Decides, slice_get-take_below, clash, is_unsynced, has_unsynced, is_volatile, is_volatile_at}
+use Rattle.model_files.specs.declared.body.Body.TheVariants.{File}
+use Rattle.finding_kinds.specs.Values.{number_in}
 
 -- Object o is a file with length n and durable length d.
 abbrev pub IsFile : Machine → ℕ → ℕ → ℕ → Type 0
@@ -29,29 +11,23 @@ pub is_file : (m : Machine) (o n d : ℕ) → Some n ≡ number_in (view m (File
 is_file m o n d = by (slice_get m.world.objects o) refl
   where
     by : (x : Option Body) → slice_get m.world.objects o ≡ x → Some n ≡ number_in (option_and_then (λ (b : Body). body_seen b (FileLength o)) x) → Some d ≡ number_in (option_and_then (λ (b : Body). body_seen b (DurableLength o)) x) → IsFile m o n d
-    by None e h k = absurd cc
     by (Some (File f)) e h k = (f, e, sym (same_Some n f.len h), sym (same_Some d f.durable_len k))
-    by (Some (Pipe p)) e h k = absurd cc
-    by (Some (EventFd c)) e h k = absurd cc
+    by x e h k = absurd cc
 
 -- An object without a length is no file.
 pub no_length : (m : Machine) (o : ℕ) → None ≡ number_in (view m (FileLength o)) → has_unsynced m.world o ≡ false
 no_length m o = by (slice_get m.world.objects o)
   where
     by : (x : Option Body) → None ≡ number_in (option_and_then (λ (b : Body). body_seen b (FileLength o)) x) → option_map_or is_unsynced (option_and_then file_in x) false ≡ false
-    by None h = refl
     by (Some (File f)) h = absurd (none-some f.len h)
-    by (Some (Pipe p)) h = refl
-    by (Some (EventFd c)) h = refl
+    by x h = refl
 
 pub no_durable_length : (m : Machine) (o : ℕ) → None ≡ number_in (view m (DurableLength o)) → has_unsynced m.world o ≡ false
 no_durable_length m o = by (slice_get m.world.objects o)
   where
     by : (x : Option Body) → None ≡ number_in (option_and_then (λ (b : Body). body_seen b (DurableLength o)) x) → option_map_or is_unsynced (option_and_then file_in x) false ≡ false
-    by None h = refl
     by (Some (File f)) h = absurd (none-some f.durable_len h)
-    by (Some (Pipe p)) h = refl
-    by (Some (EventFd c)) h = refl
+    by x h = refl
 
 -- ---- a file
 
@@ -68,9 +44,6 @@ differ_seen m o i f e =
     ∙ ap (λ (x : Option ℕ). differ x (byte_in (option_map Byte (slice_get f.durable i)))) (byte_back (slice_get f.bytes i))
     ∙ ap (differ (slice_get f.bytes i)) (byte_back (slice_get f.durable i))
 
-true_false : true ≡ false → ⊥
-true_false e = cc
-
 same_byte : (o : Option ℕ) → differ o o ≡ false
 same_byte None = refl
 same_byte (Some b) = ap not (eq-eqb b b refl)
@@ -80,7 +53,7 @@ one_byte a b h = by (a == b) refl h
   where
     by : (t : Bool) → (a == b) ≡ t → not t ≡ false → a ≡ b
     by true e k = eqb-true a b e
-    by false e k = absurd (true_false k)
+    by false e k = absurd (clash (sym k))
 
 same_bytes : (n : ℕ) (xs ys : List ℕ) → n ≤ length xs → n ≤ length ys → ((i : ℕ) → i < n → differ (slice_get xs i) (slice_get ys i) ≡ false) → take n xs ≡ take n ys
 same_bytes zero xs ys l k h = refl
@@ -123,7 +96,7 @@ bytes_decide m o n d true h x same found =
     sym (slice_get-take_below x.0.bytes n found.0 found.1) ∙ ap (λ (k : ℕ). slice_get (take k x.0.bytes) found.0) (sym len) ∙ ap (λ (xs : List ℕ). slice_get xs found.0) e
     ∙ ap (λ (k : ℕ). slice_get (take k x.0.durable) found.0) durable_len ∙ slice_get-take_below x.0.durable n found.0 found.1
     in
-    true_false (sym differs ∙ ap (differ (slice_get x.0.bytes found.0)) (sym one) ∙ same_byte (slice_get x.0.bytes found.0)))
+    clash (sym (sym differs ∙ ap (differ (slice_get x.0.bytes found.0)) (sym one) ∙ same_byte (slice_get x.0.bytes found.0))))
 bytes_decide m o n d false h x same none =
     let s = sized m o x.0 h x.1 in
     let len : x.0.len ≡ n = x.2 in
@@ -142,19 +115,15 @@ pub volatile_none : (m : Machine) (o k : ℕ) → None ≡ number_in (view m (Fi
 volatile_none m o k = by (slice_get m.world.objects o)
   where
     by : (x : Option Body) → None ≡ number_in (option_and_then (λ (b : Body). body_seen b (FileLength o)) x) → option_map_or (λ (f : FileState). is_volatile f k) (option_and_then file_in x) false ≡ false
-    by None h = refl
     by (Some (File f)) h = absurd (none-some f.len h)
-    by (Some (Pipe p)) h = refl
-    by (Some (EventFd c)) h = refl
+    by x h = refl
 
 pub volatile_no_durable : (m : Machine) (o k : ℕ) → None ≡ number_in (view m (DurableLength o)) → is_volatile_at m o k ≡ false
 volatile_no_durable m o k = by (slice_get m.world.objects o)
   where
     by : (x : Option Body) → None ≡ number_in (option_and_then (λ (b : Body). body_seen b (DurableLength o)) x) → option_map_or (λ (f : FileState). is_volatile f k) (option_and_then file_in x) false ≡ false
-    by None h = refl
     by (Some (File f)) h = absurd (none-some f.durable_len h)
-    by (Some (Pipe p)) h = refl
-    by (Some (EventFd c)) h = refl
+    by x h = refl
 
 -- A byte of a file, by the values of its places.
 pub volatile_seen : (m : Machine) (o n d k : ℕ) → IsFile m o n d

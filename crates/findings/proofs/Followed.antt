@@ -1,53 +1,7 @@
 -- What a search has seen, after one more event and at the end.
-use Rattle.std.proofs.Common.{◌≡◌, inl, inr, ℕ, zero, suc, ◌+◌, ◌<◌, ◌≤◌, List, [], ◌++◌, length, map, get_or, slice_get, Bool, true, false, Option, Some, None, refl, sym, ap, ◌∙◌, subst, arith}
-use Rattle.std.proofs.lemmas.Bool.{cases_lt, cases_order}
-use Rattle.std.proofs.lemmas.List.Elements.{All-nil, All-append, All-weaker, All-map, All-contains, Contains-append_left, Contains-append_right, Contains-get_or}
-use Rattle.std.proofs.lemmas.Option.{slice_get_past}
-use Rattle.std.specs.Prelude.{option_map}
-use Rattle.std.specs.Option.{option_map_or}
-use Rattle.std.specs.List.{All, Contains, flat_map}
-use Rattle.entries.specs.declared.row.Row.{Row}
-use Rattle.places.specs.declared.value.Change.{Change}
-use Rattle.places.specs.View.{NamesOnce}
-use Rattle.scenario.specs.declared.event.Event.{Event}
-use Rattle.scenario.specs.declared.setup.Setup.{Setup}
-use Rattle.machine.specs.declared.whole.Machine.{Machine}
-use Rattle.machine.specs.Steps.{after}
-use Rattle.machine.specs.Runs.{start, moment as machine_at}
-use Rattle.machine.specs.Whole.{view, WellFormed}
-use Rattle.quiescence.specs.Over.{SaysOver}
-use Rattle.runs.specs.Moments.{IsAt, IsAfter}
-use Rattle.finding_kinds.specs.declared.finding.Finding.{Finding}
-use Rattle.finding_kinds.specs.declared.kind.Kind.{Kind}
-use Rattle.finding_kinds.specs.declared.kind.Kind.TheVariants.{Ended, Overflow, Conflict, Step, Queued, Cancel, TimespecInUse}
-use Rattle.finding_kinds.specs.Programs.{instruction_at}
-use Rattle.findings.specs.declared.conditions.Before.{Before}
-use Rattle.findings.specs.declared.writes.Written.{Written}
-use Rattle.findings.specs.declared.watching.Watch.{Watch}
-use Rattle.findings.specs.Endings.{Circumstances}
-use Rattle.findings.specs.Completions.{circumstances}
-use Rattle.findings.specs.Conditions.{overflows}
-use Rattle.findings.specs.Conflicts.{done_as, done_at}
-use Rattle.findings.specs.Durability.{completed_by}
-use Rattle.findings.specs.Findings.{EndsOver, occurs, occurs_at, is_lost, judged_kind, Lasts, IsLeft, Retries, IsFinding, IsReportOf, Rises}
-use Rattle.findings.specs.Records.{noted_by, of_change, of_overflow, of_step, of_cancel, of_event, of_effect, after_notes, Covers, Adds, FoundBefore, RetriedBefore, IsLasting, AreLeft, IsAll, judged, all_at_end, SameFindings}
-use Rattle.findings.specs.Searching.{facts_before, NotesFacts, HasSearched}
-use Rattle.findings.specs.Suspects.{Follows, FollowsFiles, Judges}
-use Rattle.findings.specs.Watched.{advanced, watched, of_lasting}
-use Rattle.findings.proofs.Lasting.{watched_first, advanced_more, lasting_reported, has_map}
-use Rattle.findings.proofs.Left.{left_reported}
-use Rattle.findings.proofs.Threads.{threads_first, threads_more}
-use Rattle.findings.proofs.WouldConflict.{effect_done, effect_there, timespec_there}
-use Rattle.findings.proofs.Candidates.{covers_more, covers_none}
-use Rattle.findings.proofs.Groups.{the_finding}
-use Rattle.findings.proofs.Noted.{noted_circumstances, changes_alike}
-use Rattle.findings.proofs.Members.{Has, has_left, has_right, has_contains, contains_has}
-use Rattle.findings.proofs.Shown.{IsShown, record_shown, ended_there, queued_there, event_shown, event_overflow, event_step, event_cancel}
-use Rattle.findings.proofs.Suspecting.{follows_more, retried_within}
-use Rattle.findings.proofs.Judging.{judged_at_end}
-
-false_true : false ≡ true → ⊥
-false_true e = cc
+use Rattle.findings.proofs.Common.{◌≡◌, ℕ, zero, suc, ◌+◌, ◌<◌, ◌≤◌, List, [], ◌++◌, length, map, get_or, slice_get, Bool, true, false, Option, Some, None, refl, option_map, option_map_or, All, Contains, flat_map, Row, Change, NamesOnce, Event, Setup, Machine, after, start, machine_at, view, WellFormed, SaysOver, IsAt, IsAfter, Finding, Kind, Ended, Overflow, Conflict, Queued, Cancel, TimespecInUse, instruction_at, Before, Written, Watch, inl, inr, sym, ap, ◌∙◌, subst, arith, cases_lt, cases_order, All-nil, All-append, All-weaker, All-map, All-contains, Contains-append_left, Contains-append_right, Contains-get_or, slice_get_past, clash, Circumstances, circumstances, overflows, done_as, done_at, completed_by, EndsOver, occurs, occurs_at, is_lost, judged_kind, Lasts, IsLeft, Retries, IsFinding, IsReportOf, Rises, noted_by, of_change, of_overflow, of_step, of_cancel, of_event, of_effect, after_notes, Covers, Adds, FoundBefore, RetriedBefore, IsLasting, AreLeft, IsAll, judged, all_at_end, SameFindings, facts_before, NotesFacts, HasSearched, Follows, FollowsFiles, Judges, advanced, watched, of_lasting}
+use Rattle.finding_kinds.specs.declared.kind.Kind.TheVariants.{Step}
+use Rattle.findings.proofs.{Candidates.covers_more, Candidates.covers_none, Groups.the_finding, Judging.judged_at_end, Lasting.advanced_more, Lasting.has_map, Lasting.lasting_reported, Lasting.watched_first, Left.left_reported, Members.Has, Members.contains_has, Members.has_contains, Members.has_left, Members.has_right, Noted.changes_alike, Noted.noted_circumstances, Shown.IsShown, Shown.ended_there, Shown.event_cancel, Shown.event_overflow, Shown.event_shown, Shown.event_step, Shown.queued_there, Shown.record_shown, Suspecting.follows_more, Suspecting.retried_within, Threads.threads_first, Threads.threads_more, WouldConflict.effect_done, WouldConflict.effect_there, WouldConflict.timespec_there}
 
 -- A finding whose event is before moment n.
 abbrev IsEarly : Setup → List Event → ℕ → Finding → Type 0
@@ -132,7 +86,7 @@ found_more s es i e fs gs numbers now there h covered adds = record {
     occurs_there (Cancel kind) n k = in_event _ (event_cancel s i (machine_at s es i) e (after (machine_at s es i) e) kind n k)
     occurs_there (Conflict kind) n k = has_right ((fs ++ of_rows s i (machine_at s es i) e (after (machine_at s es i) e) adds.past) ++ of_event s i (machine_at s es i) e (after (machine_at s es i) e)) _ _ (effect_there i s (after (machine_at s es i) e) (done_at s (machine_at s es i) e (after (machine_at s es i) e)) now kind n covered k)
     occurs_there TimespecInUse n k = has_right ((fs ++ of_rows s i (machine_at s es i) e (after (machine_at s es i) e) adds.past) ++ of_event s i (machine_at s es i) e (after (machine_at s es i) e)) _ _ (timespec_there i s (after (machine_at s es i) e) (done_at s (machine_at s es i) e (after (machine_at s es i) e)) now n k)
-    occurs_there _ n k = absurd (false_true k)
+    occurs_there _ n k = absurd (clash k)
 
     now_reported : (f : Finding) → f.moment ≡ i → occurs_at s es f.moment f.kind f.subject ≡ true → Has (((fs ++ of_rows s i (machine_at s es i) e (after (machine_at s es i) e) adds.past) ++ of_event s i (machine_at s es i) e (after (machine_at s es i) e)) ++ of_effects s i (machine_at s es i) e (after (machine_at s es i) e) now) f
     now_reported f same k = back f same _ (occurs_there f.kind f.subject (sym (at_moment s es i e f.kind f.subject there) ∙ sym (moved s es i f same) ∙ k))
@@ -212,7 +166,7 @@ within s es f h =
           let unreported : occurs_at s es f.moment f.kind f.subject ≡ false =
           ap (λ (o : Option Event). option_map_or (λ (x : Event). is_shown s (machine_at s es f.moment) x f.kind f.subject) o false) none
           in
-          absurd (false_true (sym unreported ∙ h))
+          absurd (clash (sym unreported ∙ h))
     ]
 
 -- A finding of an event, with its verdict.

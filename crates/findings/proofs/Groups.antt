@@ -1,28 +1,5 @@
 -- The findings of those kinds of a group that pass a test.
-use Rattle.std.proofs.Common.{◌≡◌, inl, inr, ℕ, ◌+◌, ◌<◌, Bool, true, false, List, [], ◌∷◌, ◌++◌, length, take, get_or, refl, sym, ap, ◌∙◌}
-use Rattle.std.proofs.lemmas.Grind.{take_at_read}
-use Rattle.std.proofs.lemmas.List.{flat_map_more}
-use Rattle.std.proofs.lemmas.List.Elements.{All-nil, All-cons, All-append}
-use Rattle.std.specs.List.{All}
-use Rattle.finding_kinds.specs.declared.finding.Finding.{Finding}
-use Rattle.finding_kinds.specs.declared.kind.Kind.{Kind}
-use Rattle.finding_kinds.specs.declared.kind.EndedKind.{EndedKind}
-use Rattle.finding_kinds.specs.declared.kind.EndedKind.TheVariants.{Failed, Short, Severed, Canceled, TimedOut, Expired, NotFound, TooLate, WentOn}
-use Rattle.finding_kinds.specs.declared.kind.Verdict.TheVariants.{Fault, Note}
-use Rattle.finding_kinds.specs.declared.kind.ConflictKind.{ConflictKind}
-use Rattle.finding_kinds.specs.declared.kind.ConflictKind.TheVariants.{BufferInUse, Unordered, SharedPosition, FsyncEarly}
-use Rattle.finding_kinds.specs.declared.kind.StepKind.{StepKind}
-use Rattle.finding_kinds.specs.declared.kind.StepKind.TheVariants.{Busy, TakenShort, NoSuchSlot, SlotInUse, ClosedEarly, ClosedWhileHeld, RefusedFlags, ClosedTwice}
-use Rattle.finding_kinds.specs.declared.kind.QueuedKind.{QueuedKind}
-use Rattle.finding_kinds.specs.declared.kind.QueuedKind.TheVariants.{CutOff, NoEffect, SameUserData}
-use Rattle.finding_kinds.specs.declared.kind.CancelKind.{CancelKind}
-use Rattle.finding_kinds.specs.declared.kind.CancelKind.TheVariants.{NoneFound, Several, LeftRunning}
-use Rattle.finding_kinds.specs.declared.kind.TheConstants.EndedKind.{ALL as ended_kinds}
-use Rattle.finding_kinds.specs.declared.kind.TheConstants.ConflictKind.{ALL as conflict_kinds}
-use Rattle.finding_kinds.specs.declared.kind.TheConstants.StepKind.{ALL as step_kinds}
-use Rattle.finding_kinds.specs.declared.kind.TheConstants.QueuedKind.{ALL as queued_kinds}
-use Rattle.finding_kinds.specs.declared.kind.TheConstants.CancelKind.{ALL as cancel_kinds}
-use Rattle.findings.specs.Records.{given, of_group}
+use Rattle.findings.proofs.Common.{◌≡◌, ℕ, ◌+◌, ◌<◌, Bool, true, false, List, [], ◌∷◌, ◌++◌, length, take, get_or, refl, All, Finding, Kind, EndedKind, Failed, Short, Severed, Canceled, TimedOut, Expired, NotFound, TooLate, WentOn, Fault, Note, ConflictKind, BufferInUse, Unordered, SharedPosition, FsyncEarly, StepKind, Busy, TakenShort, NoSuchSlot, SlotInUse, ClosedEarly, ClosedWhileHeld, RefusedFlags, ClosedTwice, QueuedKind, CutOff, NoEffect, SameUserData, CancelKind, NoneFound, Several, LeftRunning, ended_kinds, conflict_kinds, step_kinds, queued_kinds, cancel_kinds, inl, inr, sym, ap, ◌∙◌, take_at_read, flat_map_more, All-nil, All-cons, All-append, given, of_group}
 use Rattle.findings.proofs.Members.{Has, has_flat_map}
 
 abbrev pub the_finding : ℕ → Kind → ℕ → Finding

@@ -1,36 +1,8 @@
 -- Verdicts by the end of a run.
-use Rattle.std.proofs.Common.{◌≡◌, inl, inr, ℕ, zero, suc, ◌+◌, ◌-◌, ◌<◌, ◌≤◌, Bool, true, false, List, [], ◌∷◌, length, map, refl, sym, ap, ◌∙◌, arith}
-use Rattle.std.proofs.lemmas.Bool.{cases_lt, lt-ltb, le-ltb, or_from, or_left, or_parts, or_right}
-use Rattle.std.proofs.lemmas.List.Folds.{list_any-append}
-use Rattle.std.proofs.lemmas.List.Elements.{All-head, All-tail}
-use Rattle.std.specs.Prelude.{Some, None, slice_get, nat_lt, ◌==◌, ◌&&◌, ◌||◌}
-use Rattle.std.specs.List.{All, list_any}
-use Rattle.bit_sets.specs.Sets.{has, IsNext, NoneFrom}
-use Rattle.scenario.specs.declared.event.Event.{Event}
-use Rattle.scenario.specs.declared.setup.Setup.{Setup}
-use Rattle.machine.specs.declared.whole.Machine.{Machine}
-use Rattle.machine.specs.Runs.{moment as machine_at}
-use Rattle.finding_kinds.specs.declared.finding.Finding.{Finding}
-use Rattle.finding_kinds.specs.declared.kind.Kind.{Kind}
-use Rattle.finding_kinds.specs.declared.kind.Kind.TheVariants.{Conflict}
-use Rattle.finding_kinds.specs.declared.kind.ConflictKind.TheVariants.{FsyncEarly}
-use Rattle.findings.specs.declared.writes.Written.{Written}
-use Rattle.findings.specs.Durability.{is_volatile_at, written_before, has_byte, has_byte_of}
-use Rattle.findings.specs.Findings.{is_lost, verdict_of, judged_kind}
-use Rattle.findings.specs.Records.{judged}
-use Rattle.findings.specs.Suspects.{is_marked, is_early, has_early, Judges, FollowsFiles}
-use Rattle.findings.specs.Watched.{numbers_below}
-use Rattle.findings.proofs.Lasting.{below_there}
-use Rattle.findings.proofs.Marks.{marked_in, says_of_none}
-use Rattle.findings.proofs.Members.{Has}
-use Rattle.findings.proofs.Suspecting.{writes_below}
+use Rattle.findings.proofs.Common.{◌≡◌, ℕ, zero, suc, ◌+◌, ◌-◌, ◌<◌, ◌≤◌, Bool, true, false, List, [], ◌∷◌, length, map, refl, Some, None, slice_get, nat_lt, ◌==◌, ◌&&◌, ◌||◌, All, list_any, has, IsNext, NoneFrom, Event, Setup, Machine, machine_at, Finding, Kind, Conflict, FsyncEarly, Written, inl, inr, sym, ap, ◌∙◌, arith, cases_lt, lt-ltb, le-ltb, or_from, or_parts, list_any-append, All-head, All-tail, is_volatile_at, written_before, has_byte, has_byte_of, is_lost, judged_kind, judged, is_marked, is_early, has_early, Judges, FollowsFiles, numbers_below, fault_if}
+use Rattle.findings.proofs.{Lasting.below_there, Marks.marked_in, Marks.says_of_none, Members.any_alike, Members.any_has, Suspecting.writes_below}
 
 -- ---- tests of numbers
-
-any_has : {X : Type 0} (test : X → Bool) (xs : List X) (x : X) → Has xs x → test x ≡ true → list_any test xs ≡ true
-any_has test [] x h t = absurd h
-any_has test (y ∷ ys) x (inl e) t = or_left (test y) (list_any test ys) (ap test e ∙ t)
-any_has test (y ∷ ys) x (inr h) t = or_right (test y) (list_any test ys) (any_has test ys x h t)
 
 none_below : (test : ℕ → Bool) (n : ℕ) → ((k : ℕ) → k < n → test k ≡ false) → list_any test (numbers_below n) ≡ false
 none_below test zero h = refl
@@ -58,17 +30,12 @@ between_none words first count none = none_below (λ (k : ℕ). has words (first
 
 -- ---- the bytes of a WRITE
 
-any_alike : (f g : ℕ → Bool) (xs : List ℕ) → ((x : ℕ) → f x ≡ g x) → list_any f xs ≡ list_any g xs
-any_alike f g [] h = refl
-any_alike f g (x ∷ xs) h = ap (λ (b : Bool). b || list_any f xs) (h x) ∙ ap (λ (b : Bool). g x || b) (any_alike f g xs h)
-
 has_byte_alike : (test other : ℕ → ℕ → Bool) (w : Written) → ((k : ℕ) → test w.file k ≡ other w.file k) → has_byte test w ≡ has_byte other w
-has_byte_alike test other w h = any_alike (λ (k : ℕ). test w.file (w.first + k)) (λ (k : ℕ). other w.file (w.first + k)) (numbers_below w.count) (λ k. h (w.first + k))
+has_byte_alike test other w h = any_alike (λ (k : ℕ). test w.file (w.first + k)) (λ (k : ℕ). other w.file (w.first + k)) (λ k. h (w.first + k)) (numbers_below w.count)
 
 -- The set of the WRITE's file has such a byte.
 pub byte_in_set : (sets : List (List ℕ)) (w : Written) (words : List ℕ) → slice_get sets w.file ≡ Some words → list_any (λ (k : ℕ). has words (w.first + k)) (numbers_below w.count) ≡ has_byte (is_marked sets) w
-byte_in_set sets w words e = any_alike (λ (k : ℕ). has words (w.first + k)) (λ (k : ℕ). is_marked sets w.file (w.first + k)) (numbers_below w.count)
-    (λ k. sym (marked_in sets w.file (w.first + k) words e))
+byte_in_set sets w words e = any_alike (λ (k : ℕ). has words (w.first + k)) (λ (k : ℕ). is_marked sets w.file (w.first + k)) (λ k. sym (marked_in sets w.file (w.first + k) words e)) (numbers_below w.count)
 
 pub byte_in_none : (sets : List (List ℕ)) (w : Written) → slice_get sets w.file ≡ None → false ≡ has_byte (is_marked sets) w
 byte_in_none sets w e = sym (none_below (λ (k : ℕ). is_marked sets w.file (w.first + k)) w.count (λ k l. says_of_none sets w.file e (w.first + k)))
@@ -82,7 +49,7 @@ byte_of_alike test other n q (w ∷ ws) h l =
 -- ---- verdicts
 
 judged_alike : (lost other : ℕ → Bool) (kind : Kind) (q : ℕ) → ((r : ℕ) → lost r ≡ other r) → judged_kind lost kind q ≡ judged_kind other kind q
-judged_alike lost other (Conflict (FsyncEarly verdict)) q h = ap (λ (b : Bool). Conflict (FsyncEarly (verdict_of b))) (h q)
+judged_alike lost other (Conflict (FsyncEarly verdict)) q h = ap (λ (b : Bool). Conflict (FsyncEarly (fault_if b))) (h q)
 judged_alike lost other _ q h = refl
 
 all_judged_alike : (lost other : ℕ → Bool) (fs : List Finding) → ((r : ℕ) → lost r ≡ other r) → map (judged lost) fs ≡ map (judged other) fs

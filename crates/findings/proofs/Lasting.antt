@@ -1,33 +1,7 @@
 -- Conditions that last, and the moment since when each holds.
-use Rattle.std.proofs.Common.{◌≡◌, inl, inr, ℕ, zero, suc, ◌+◌, ◌-◌, ◌<◌, ◌≤◌, Bool, true, false, List, [], ◌∷◌, ◌++◌, length, take, drop, get_or, set, map, refl, sym, ap, ◌∙◌, subst, arith}
-use Rattle.std.proofs.Math.Seq.{take-append_seam}
-use Rattle.std.proofs.lemmas.List.{length-map}
-use Rattle.std.proofs.lemmas.Bool.{cases_lt, cases_order, and_parts, ltb-true, eqb-true}
-use Rattle.std.proofs.lemmas.List.Elements.{All-nil, All-cons, All-append, All-contains, Contains-get_or}
-use Rattle.std.specs.Prelude.{Option, Some, None}
-use Rattle.std.specs.List.{All, flat_map}
-use Rattle.scenario.specs.declared.event.Event.{Event}
-use Rattle.scenario.specs.declared.setup.Setup.{Setup}
-use Rattle.machine.specs.declared.whole.Machine.{Machine}
-use Rattle.machine.specs.Runs.{start, moment as machine_at}
-use Rattle.finding_kinds.specs.declared.kind.Kind.{Kind}
-use Rattle.finding_kinds.specs.declared.kind.Kind.TheVariants.{Lasting}
-use Rattle.finding_kinds.specs.declared.kind.LastingKind.{LastingKind}
-use Rattle.findings.specs.declared.conditions.Condition.{Condition}
-use Rattle.findings.specs.declared.conditions.Condition.TheVariants.{Waits, LostWakeUp, NotTaken, NotReaped, Stuck}
-use Rattle.findings.specs.declared.conditions.Next.{Next}
-use Rattle.findings.specs.declared.watching.Watch.{Watch}
-use Rattle.findings.specs.AtEnd.{reported_as}
-use Rattle.findings.specs.Conditions.{condition_holds, Began}
-use Rattle.findings.specs.Findings.{EndsOver, condition_holds_at, LastsSince, Lasts}
-use Rattle.findings.specs.Records.{IsLasting}
-use Rattle.findings.specs.Searching.{since_of, watch_at}
-use Rattle.findings.specs.Watched.{next_of, moved_by, next_after, AreNext, continued, advanced, fresh, numbers_below, of_threads, watched, of_kind, of_watch, of_lasting}
-use Rattle.findings.proofs.Groups.{the_finding}
-use Rattle.findings.proofs.Members.{Has, has_left, has_right, has_flat_map, has_contains}
-
-false_true : false ≡ true → ⊥
-false_true e = cc
+use Rattle.findings.proofs.Common.{◌≡◌, ℕ, zero, suc, ◌+◌, ◌-◌, ◌<◌, ◌≤◌, Bool, true, false, List, [], ◌∷◌, ◌++◌, length, take, drop, get_or, set, map, refl, Option, Some, None, All, flat_map, Event, Setup, Machine, start, machine_at, Kind, Lasting, LastingKind, Condition, LostWakeUp, NotTaken, NotReaped, Stuck, Next, Watch, inl, inr, sym, ap, ◌∙◌, subst, arith, take-append_seam, length-map, cases_lt, cases_order, and_parts, ltb-true, eqb-true, All-nil, All-cons, All-append, All-contains, Contains-get_or, clash, reported_as, condition_holds, Began, EndsOver, condition_holds_at, LastsSince, Lasts, IsLasting, since_of, watch_at, next_of, moved_by, next_after, AreNext, continued, advanced, fresh, numbers_below, of_threads, watched, of_kind, of_watch, of_lasting}
+use Rattle.findings.specs.declared.conditions.Condition.TheVariants.{Waits}
+use Rattle.findings.proofs.{Groups.the_finding, Members.Has, Members.has_contains, Members.has_flat_map, Members.has_left, Members.has_right}
 
 -- ---- since when a condition holds
 
@@ -79,20 +53,17 @@ since_is holds (suc n) = since_more holds n (since_of holds n) (since_is holds n
 since_begins : (holds : ℕ → Bool) (n i : ℕ) → since_of holds n ≡ Some i → Began holds n i
 since_begins holds n i e = subst (IsSince holds n) e (since_is holds n)
 
-both : (a : Bool) → a ≡ true → a ≡ false → ⊥
-both a h k = false_true (sym k ∙ h)
-
 -- A condition has begun at only one moment.
 one_beginning : (holds : ℕ → Bool) (n i j : ℕ) → Began holds n i → Began holds n j → i < j → ⊥
 one_beginning holds n i j b d l =
     let up : j ≤ n = d.within in
-    both (holds (j - 1)) (b.lasts (j - 1) (omega arith) (omega arith)) (d.first (j - 1) (omega arith))
+    clash (sym (d.first (j - 1) (omega arith)) ∙ b.lasts (j - 1) (omega arith) (omega arith))
 
 begins_since : (holds : ℕ → Bool) (n i : ℕ) → Began holds n i → since_of holds n ≡ Some i
 begins_since holds n i b = by (since_of holds n) (since_is holds n)
   where
     by : (o : Option ℕ) → IsSince holds n o → o ≡ Some i
-    by None h = absurd (both (holds n) (b.lasts n b.within (omega arith)) h)
+    by None h = absurd (clash (sym h ∙ b.lasts n b.within (omega arith)))
     by (Some j) h =
         elim (cases_order i j) [
           | inl e ↦ ap Some (sym e)

@@ -1,34 +1,7 @@
 -- Requests that are incomplete at the end, and files that aren't durable.
-use Rattle.std.proofs.Common.{◌≡◌, inl, inr, ℕ, zero, suc, ◌+◌, ◌<◌, ◌≤◌, Bool, true, false, List, [], ◌∷◌, ◌++◌, length, drop, refl, sym, ap, ◌∙◌, subst, arith, append_assoc, append-nil}
-use Rattle.std.proofs.lemmas.List.{drop_all}
-use Rattle.std.proofs.lemmas.List.Elements.{All-nil, All-append}
-use Rattle.std.proofs.lemmas.Bool.{and_parts, and_from, lt-ltb, ltb-true}
-use Rattle.std.proofs.lemmas.Grind.{flat_map-append}
-use Rattle.std.specs.Prelude.{Option, Some, None, slice_get, nat_lt, ◌&&◌}
-use Rattle.std.specs.Option.{option_map_or}
-use Rattle.std.specs.List.{All, flat_map, enumerate_from}
-use Rattle.entries.specs.declared.row.Row.{Row}
-use Rattle.links_drains.specs.Units.{is_open}
-use Rattle.scenario.specs.declared.event.Event.{Event}
-use Rattle.scenario.specs.declared.setup.Setup.{Setup}
-use Rattle.machine.specs.declared.whole.Machine.{Machine}
-use Rattle.machine.specs.Runs.{moment as machine_at}
-use Rattle.finding_kinds.specs.declared.finding.Finding.{Finding}
-use Rattle.finding_kinds.specs.declared.kind.Kind.{Kind}
-use Rattle.finding_kinds.specs.declared.kind.Kind.TheVariants.{Left}
-use Rattle.finding_kinds.specs.declared.kind.LeftKind.{LeftKind}
-use Rattle.finding_kinds.specs.declared.kind.LeftKind.TheVariants.{Unfinished, NotDurable}
-use Rattle.finding_kinds.specs.declared.kind.Verdict.{Verdict}
-use Rattle.finding_kinds.specs.declared.kind.Verdict.TheVariants.{Fault, Note}
-use Rattle.findings.specs.AtEnd.{fault_if, has_fsync, is_left}
-use Rattle.findings.specs.Endings.{is_verdict}
-use Rattle.findings.specs.Conditions.{has_unsynced}
-use Rattle.findings.specs.Findings.{EndsOver, IsLeftAt, IsLeft}
-use Rattle.findings.specs.Records.{of_left, all_left, of_object, all_unsynced, all_at_end, AreLeft}
-use Rattle.findings.specs.Watched.{numbers_below}
-use Rattle.findings.proofs.Groups.{the_finding, given_only, given_there}
-use Rattle.findings.proofs.Lasting.{below_there, one_end}
-use Rattle.findings.proofs.Members.{Has, has_left, has_right, has_flat_map, has_contains}
+use Rattle.findings.proofs.Common.{◌≡◌, ℕ, zero, suc, ◌+◌, ◌<◌, ◌≤◌, Bool, true, false, List, [], ◌∷◌, ◌++◌, length, drop, refl, Option, Some, None, slice_get, nat_lt, ◌&&◌, option_map_or, All, flat_map, enumerate_from, Row, is_open, Event, Setup, Machine, machine_at, Finding, Kind, Left, LeftKind, Unfinished, NotDurable, Verdict, Fault, Note, inl, inr, sym, ap, ◌∙◌, subst, arith, append-nil, drop_all, All-nil, All-append, and_parts, and_from, lt-ltb, ltb-true, flat_map-append, fault_if, has_fsync, is_left, is_verdict, has_unsynced, EndsOver, IsLeftAt, IsLeft, of_left, all_left, of_object, all_unsynced, all_at_end, AreLeft, numbers_below}
+use Rattle.std.proofs.Common.{append_assoc}
+use Rattle.findings.proofs.{Groups.given_only, Groups.given_there, Groups.the_finding, Lasting.below_there, Lasting.one_end, Members.Has, Members.has_contains, Members.has_flat_map, Members.has_left, Members.has_right}
 
 -- The first of the remaining requests.
 row_first : (rows rest : List Row) (k : ℕ) (row : Row) → drop k rows ≡ row ∷ rest → (slice_get rows k ≡ Some row) × (drop (suc k) rows ≡ rest)

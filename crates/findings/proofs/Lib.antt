@@ -1,3 +1,4 @@
+pub mod Common
 pub mod Members
 pub mod Groups
 pub mod Plain
@@ -26,3 +27,4 @@ pub mod Marks
 pub mod Suspecting
 pub mod Judging
 pub mod Followed
+pub mod Prefixes

@@ -1,10 +1,5 @@
 -- Searching a list, element by element, for one that passes a test.
-use Rattle.std.proofs.Common.{◌≡◌, inl, inr, ℕ, ◌+◌, ◌<◌, ◌≤◌, Bool, true, false, List, length, refl, sym, ap, ◌∙◌, arith}
-use Rattle.std.proofs.lemmas.Bool.{cases_lt}
-use Rattle.std.specs.Prelude.{Option, Some, None, slice_get}
-use Rattle.std.specs.Option.{option_map_or}
-use Rattle.std.specs.List.{list_any}
-use Rattle.links_drains.proofs.Units.{any_true, any_false}
+use Rattle.findings.proofs.Common.{◌≡◌, ℕ, ◌+◌, ◌<◌, ◌≤◌, Bool, true, false, List, length, refl, Option, Some, None, slice_get, option_map_or, list_any, inl, inr, sym, ap, ◌∙◌, arith, cases_lt, any_true, any_false}
 use Rattle.findings.proofs.Draining.{none_past}
 
 -- Whether element k passes.

@@ -1,24 +1,5 @@
 -- Sets of bytes, one for each object, that a search marks.
-use Rattle.std.proofs.Common.{◌≡◌, inl, inr, ℕ, zero, suc, ◌+◌, ◌-◌, ◌<◌, ◌≤◌, Bool, true, false, cond, not, List, [], ◌∷◌, ◌++◌, length, length-append, get_or, set, refl, sym, ap, ◌∙◌, subst, arith}
-use Rattle.std.proofs.lemmas.Bool.{cases_eq, cases_lt, and_left, and_right, and_from, and_parts, lt-ltb, ltb-true, leb-true, le-leb, eq-eqb, ne_eqb}
-use Rattle.std.proofs.lemmas.Bool.Decides.{nat_tests}
-use Rattle.std.proofs.lemmas.Option.{slice_get_read, slice_get_past}
-use Rattle.std.specs.Bool.{MatchBool}
-use Rattle.std.specs.Prelude.{Option, Some, None, slice_get, nat_lt, nat_le, ◌==◌, ◌&&◌, ◌||◌}
-use Rattle.std.specs.Option.{option_map_or}
-use Rattle.bit_sets.specs.Sets.{has, IsNext, NoneFrom}
-use Rattle.bit_sets.proofs.Bits.{has_past}
-use Rattle.places.specs.declared.place.Place.TheVariants.{FileByte, DurableByte}
-use Rattle.machine.specs.declared.whole.Machine.{Machine}
-use Rattle.machine.specs.Whole.{view}
-use Rattle.finding_kinds.specs.Values.{byte_in, differ}
-use Rattle.findings.specs.declared.writes.Fsync.{Fsync}
-use Rattle.findings.specs.declared.writes.Written.{Written}
-use Rattle.findings.specs.Durability.{is_within, moves}
-use Rattle.findings.specs.Suspects.{is_marked, is_fsync_of, SaysMarked}
-
-false_true : false ≡ true → ⊥
-false_true e = cc
+use Rattle.findings.proofs.Common.{◌≡◌, ℕ, zero, suc, ◌+◌, ◌-◌, ◌<◌, ◌≤◌, Bool, true, false, cond, not, List, [], ◌∷◌, ◌++◌, length, get_or, set, refl, MatchBool, Option, Some, None, slice_get, nat_lt, nat_le, ◌==◌, ◌&&◌, ◌||◌, option_map_or, has, IsNext, NoneFrom, FileByte, DurableByte, Machine, view, byte_in, differ, Fsync, Written, inl, inr, length-append, sym, ap, ◌∙◌, subst, arith, cases_eq, cases_lt, and_left, and_right, and_from, and_parts, lt-ltb, ltb-true, leb-true, le-leb, eq-eqb, ne_eqb, nat_tests, slice_get_read, slice_get_past, has_past, clash, is_within, moves, is_marked, is_fsync_of, SaysMarked}
 
 or_false : (a b : Bool) → b ≡ false → a ≡ (a || b)
 or_false true b e = refl
@@ -161,13 +142,10 @@ AgreeOutside first count old now = (k : ℕ) → is_within first count k ≡ fal
 within : (first count k : ℕ) → first ≤ k → k - first < count → is_within first count k ≡ true
 within first count k l m = and_from (nat_le first k) (nat_lt k (first + count)) (le-leb first k l) (lt-ltb k (first + count) (omega (arith, l, m)))
 
-no_two : (b : Bool) → b ≡ true → b ≡ false → ⊥
-no_two b t f = false_true (sym f ∙ t)
-
 pub range_less : (first count byte : ℕ) (old now new : List ℕ) → AgreeOutside first count old now → first ≤ byte → byte - first < count
     → ((k : ℕ) → has new k ≡ cond (k == byte) false (has now k)) → AgreeOutside first count old new
 range_less first count byte old now new same l m h k outside =
-    let other : k ≡ byte → ⊥ = λ e. no_two (is_within first count k) (ap (is_within first count) e ∙ within first count byte l m) outside in
+    let other : k ≡ byte → ⊥ = λ e. clash (sym outside ∙ ap (is_within first count) e ∙ within first count byte l m) in
     h k ∙ ap (λ (b : Bool). cond b false (has now k)) (ne_eqb k byte other) ∙ same k outside
 
 range_gone : (first count : ℕ) (old now : List ℕ) → AgreeOutside first count old now → ((k : ℕ) → is_within first count k ≡ true → has now k ≡ false) → (k : ℕ) → has now k ≡ (has old k && not (is_within first count k))

@@ -1,7 +1,5 @@
 -- Membership in lists, by recursion.
-use Rattle.std.proofs.Common.{◌≡◌, ◌⊎◌, inl, inr, ℕ, zero, suc, ◌<◌, ◌≤◌, List, [], ◌∷◌, ◌++◌, length, get_or, sym, subst, arith}
-use Rattle.std.specs.Prelude.{None, slice_get}
-use Rattle.std.specs.List.{Contains, flat_map}
+use Rattle.findings.proofs.Common.{refl, ◌||◌, ◌≡◌, ◌⊎◌, ℕ, Bool, true, zero, suc, ◌<◌, List, [], ◌∷◌, ◌++◌, length, get_or, Contains, flat_map, list_any, inl, inr, sym, ap, ◌∙◌, subst, arith, or_left, or_right}
 
 -- The list contains the element.
 abbrev pub Has : {X : Type 0} → List X → X → Type 0
@@ -38,8 +36,13 @@ has_contains (y ∷ ys) x (inr h) =
     let l : c.0 < length ys = c.1 in
     (suc c.0, omega arith, c.2)
 
--- An index without an element is past the end.
-pub none_after : {X : Type 0} (xs : List X) (k : ℕ) → slice_get xs k ≡ None → length xs ≤ k
-none_after [] k e = omega arith
-none_after (x ∷ xs) zero e = cc
-none_after (x ∷ xs) (suc k) e = let l : length xs ≤ k = none_after xs k e in omega arith
+-- Some element passes if one that the list has does.
+pub any_has : {X : Type 0} (test : X → Bool) (xs : List X) (x : X) → Has xs x → test x ≡ true → list_any test xs ≡ true
+any_has test [] x h t = absurd h
+any_has test (y ∷ ys) x (inl e) t = or_left (test y) (list_any test ys) (ap test e ∙ t)
+any_has test (y ∷ ys) x (inr h) t = or_right (test y) (list_any test ys) (any_has test ys x h t)
+
+-- Tests that agree on each element.
+pub any_alike : {X : Type 0} (f g : X → Bool) → ((x : X) → f x ≡ g x) → (xs : List X) → list_any f xs ≡ list_any g xs
+any_alike f g h [] = refl
+any_alike f g h (x ∷ xs) = ap (λ (b : Bool). b || list_any f xs) (h x) ∙ ap (λ (b : Bool). g x || b) (any_alike f g h xs)

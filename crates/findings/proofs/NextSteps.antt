@@ -1,49 +1,21 @@
 -- What threads do next, as the search follows it.
-use Rattle.std.proofs.Common.{◌≡◌, ℕ, Bool, true, false, List, [], ◌∷◌, length, map, refl, sym, ap, ◌∙◌, subst}
-use Rattle.std.proofs.lemmas.Bool.{and_right, eqb-true}
-use Rattle.std.proofs.lemmas.List.Elements.{All-nil, All-cons}
-use Rattle.std.specs.Prelude.{◌==◌, ◌&&◌, not, nat_lt, if◌then◌else◌, Option, Some, None, slice_get}
-use Rattle.std.specs.Option.{option_map_or}
-use Rattle.places.specs.declared.value.Change.{Change}
-use Rattle.places.specs.declared.value.Stage.{Stage}
-use Rattle.places.specs.declared.value.Stage.TheVariants.{Ready, Waiting}
-use Rattle.scenario.specs.declared.event.Event.{Event}
-use Rattle.scenario.specs.declared.event.Event.TheVariants.{Step, Take, Sleep, Issue, Finish, Expire, Tick}
-use Rattle.scenario.specs.declared.setup.Instruction.{Instruction}
-use Rattle.scenario.specs.declared.setup.Instruction.TheVariants.{Put, Push, Store, Enter, Reap, Close}
-use Rattle.scenario.specs.declared.setup.Setup.{Setup}
-use Rattle.machine.specs.declared.whole.Machine.{Machine}
-use Rattle.machine.specs.Steps.{after}
-use Rattle.machine.specs.Runs.{moment as machine_at}
-use Rattle.machine.specs.Threads.{ThreadState}
-use Rattle.runs.specs.Moments.{IsAfter}
-use Rattle.finding_kinds.specs.Programs.{instruction_at}
-use Rattle.findings.specs.declared.conditions.Next.{Next}
+use Rattle.findings.proofs.Common.{and-true, and-false, ◌≡◌, ℕ, Bool, true, false, List, [], ◌∷◌, length, map, refl, ◌==◌, ◌&&◌, not, nat_lt, if◌then◌else◌, Option, Some, None, slice_get, option_map_or, Change, Stage, Ready, Waiting, Event, Step, Instruction, Push, Reap, Setup, Machine, after, machine_at, ThreadState, IsAfter, instruction_at, Next, Watch, sym, ap, ◌∙◌, subst, and_right, eqb-true, All-nil, All-cons, is_held_up, is_blocked, is_step_of, is_stuck, waits, watch_at, next_at, next_of, is_waiting, blocks, moved_by, next_after, AreNext, watched, thread_next}
+use Rattle.findings.proofs.{OtherThreads.others_kept, StuckSteps.stuck_in}
 use Rattle.findings.specs.declared.conditions.Next.TheVariants as next
-use Rattle.findings.specs.declared.watching.Watch.{Watch}
-use Rattle.findings.specs.Conditions.{is_held_up, is_blocked, is_step_of, is_stuck, waits}
-use Rattle.findings.specs.Searching.{watch_at}
-use Rattle.findings.specs.Watched.{next_at, next_in, next_of, is_waiting, blocks, moved_by, next_after, AreNext, watched}
-use Rattle.findings.proofs.OtherThreads.{others_kept}
-use Rattle.findings.proofs.StuckSteps.{and_false, and_true, stuck_in}
 
 -- ---- the conditions of a thread
 
 waits_at : (stage : Stage) (o : Option Instruction) → is_waiting (next_at stage o) ≡ is_held_up stage
 waits_at (Waiting n w) o = refl
-waits_at Ready None = refl
-waits_at Ready (Some (Put slot entry)) = refl
 waits_at Ready (Some (Push index)) = refl
-waits_at Ready (Some (Store address bytes)) = refl
-waits_at Ready (Some (Enter k w flags)) = refl
 waits_at Ready (Some Reap) = refl
-waits_at Ready (Some (Close fd)) = refl
+waits_at Ready o = refl
 
 waits_by : (s : Setup) (m : Machine) (t : ℕ) → is_waiting (next_of s m t) ≡ waits s m t
 waits_by s m t = by (slice_get m.threads t)
   where
-    by : (o : Option ThreadState) → is_waiting (next_in s t o) ≡ (nat_lt t (length s.threads) && option_map_or (λ (x : ThreadState). is_held_up x.stage) o false)
-    by None = sym (and_false (nat_lt t (length s.threads)))
+    by : (o : Option ThreadState) → is_waiting (thread_next s t o) ≡ (nat_lt t (length s.threads) && option_map_or (λ (x : ThreadState). is_held_up x.stage) o false)
+    by None = sym (and-false (nat_lt t (length s.threads)))
     by (Some x) = within (nat_lt t (length s.threads))
       where
         within : (b : Bool) → is_waiting (if b then next_at x.stage (instruction_at s (Step t) (Some x.counter)) else next.Other) ≡ (b && is_held_up x.stage)
@@ -55,19 +27,15 @@ pub waits_next : (s : Setup) (m : Machine) (t : ℕ) (x : Next) → x ≡ next_o
 waits_next s m t x e = ap is_waiting e ∙ waits_by s m t
 
 blocks_at : (m : Machine) (stage : Stage) (o : Option Instruction) → blocks m (next_at stage o) ≡ (option_map_or (is_blocked m) o false && not (is_held_up stage))
-blocks_at m (Waiting n w) o = sym (and_false (option_map_or (is_blocked m) o false))
-blocks_at m Ready None = refl
-blocks_at m Ready (Some (Put slot entry)) = refl
-blocks_at m Ready (Some (Push index)) = sym (and_true (is_blocked m (Push index)))
-blocks_at m Ready (Some (Store address bytes)) = refl
-blocks_at m Ready (Some (Enter k w flags)) = refl
-blocks_at m Ready (Some Reap) = sym (and_true (is_blocked m Reap))
-blocks_at m Ready (Some (Close fd)) = refl
+blocks_at m (Waiting n w) o = sym (and-false (option_map_or (is_blocked m) o false))
+blocks_at m Ready (Some (Push index)) = sym (and-true (is_blocked m (Push index)))
+blocks_at m Ready (Some Reap) = sym (and-true (is_blocked m Reap))
+blocks_at m Ready o = refl
 
 blocks_by : (s : Setup) (m : Machine) (t : ℕ) → blocks m (next_of s m t) ≡ is_stuck s m t
 blocks_by s m t = by (slice_get m.threads t)
   where
-    by : (o : Option ThreadState) → blocks m (next_in s t o) ≡ stuck_in s m t o
+    by : (o : Option ThreadState) → blocks m (thread_next s t o) ≡ stuck_in s m t o
     by None = sym (and_right (nat_lt t (length s.threads)) _ refl)
     by (Some x) = within (nat_lt t (length s.threads))
       where
@@ -82,7 +50,7 @@ stuck_next s m t x e = ap (blocks m) e ∙ blocks_by s m t
 -- ---- after an event
 
 kept : (s : Setup) (m n : Machine) (e : Event) (t : ℕ) → n ≡ after m e → is_step_of t e ≡ false → next_of s m t ≡ next_of s n t
-kept s m n e t changed other = ap (next_in s t) (sym (ap (λ (x : Machine). slice_get x.threads t) changed ∙ others_kept m e t other))
+kept s m n e t changed other = ap (thread_next s t) (sym (ap (λ (x : Machine). slice_get x.threads t) changed ∙ others_kept m e t other))
 
 right : (s : Setup) (m n : Machine) (e : Event) (w : Watch) → n ≡ after m e → w.next ≡ next_of s m w.subject → next_after (moved_by s e n) w ≡ next_of s n w.subject
 right s m n (Step t) w changed h = by (t == w.subject) refl
@@ -90,12 +58,7 @@ right s m n (Step t) w changed h = by (t == w.subject) refl
     by : (b : Bool) → (t == w.subject) ≡ b → (if b then next_of s n t else w.next) ≡ next_of s n w.subject
     by true e = ap (next_of s n) (eqb-true t w.subject e)
     by false e = h ∙ kept s m n (Step t) w.subject changed e
-right s m n (Take k) w changed h = h ∙ kept s m n (Take k) w.subject changed refl
-right s m n Sleep w changed h = h ∙ kept s m n Sleep w.subject changed refl
-right s m n (Issue r) w changed h = h ∙ kept s m n (Issue r) w.subject changed refl
-right s m n (Finish r c) w changed h = h ∙ kept s m n (Finish r c) w.subject changed refl
-right s m n (Expire r) w changed h = h ∙ kept s m n (Expire r) w.subject changed refl
-right s m n (Tick d) w changed h = h ∙ kept s m n (Tick d) w.subject changed refl
+right s m n e w changed h = h ∙ kept s m n e w.subject changed refl
 
 all_right : (s : Setup) (es : List Event) (i : ℕ) (e : Event) (n : Machine) → n ≡ after (machine_at s es i) e → (ws : List Watch) → AreNext s e n (map (watch_at s es i) ws)
 all_right s es i e n changed [] = All-nil (λ (w : Watch). next_after (moved_by s e n) w ≡ next_of s n w.subject)

@@ -1,62 +1,6 @@
 -- The circumstances that the search notes for a completed request are those of the event.
-use Rattle.std.proofs.Common.{◌≡◌, ◌⊎◌, inl, inr, ℕ, ◌+◌, ◌<◌, ◌≤◌, Bool, true, false, cond, List, [], ◌∷◌, ◌++◌, refl, sym, ap, ◌∙◌, subst, arith}
-use Rattle.std.proofs.lemmas.Bool.{and_parts, and_from, and_left, and_right, or_left, or_right, or_cases, false_from_ne_true, true_from_ne_false, cases_lt, ltb-true, eqb-true, eq-eqb}
-use Rattle.std.proofs.lemmas.List.Folds.{list_any-append}
-use Rattle.std.specs.Prelude.{ℤ, Option, Some, None, Result, Ok, Err, OnOk, option_map, slice_get, nat_lt, ◌==◌, ◌&&◌, ◌||◌, not}
-use Rattle.std.specs.Option.{option_map_or}
-use Rattle.std.specs.List.{list_any, flat_map, enumerate_from}
-use Rattle.entries.specs.declared.row.Row.{Row}
-use Rattle.places.specs.declared.place.Place.{Place}
-use Rattle.places.specs.declared.place.Place.TheVariants.{Request}
-use Rattle.places.specs.declared.value.Value.{Value}
-use Rattle.places.specs.declared.value.Change.{Change}
-use Rattle.places.specs.View.{Exact, NamesOnce}
-use Rattle.links_drains.specs.Links.{is_guard, Chained}
-use Rattle.links_drains.proofs.Chains.{enumerated}
-use Rattle.links_drains.proofs.RestOfUnit.{numbered}
-use Rattle.links_drains.proofs.Units.{any_true, any_false}
-use Rattle.scenario.specs.declared.event.Event.{Event}
-use Rattle.scenario.specs.declared.setup.Setup.{Setup}
-use Rattle.machine.specs.declared.whole.Machine.{Machine}
-use Rattle.machine.specs.Whole.{view}
-use Rattle.timeouts_cancel.specs.Cascades.{is_transfer}
-use Rattle.finding_kinds.specs.declared.finding.Finding.{Finding}
-use Rattle.finding_kinds.specs.declared.kind.Kind.{Kind}
-use Rattle.finding_kinds.specs.declared.kind.Kind.TheVariants.{Ended}
-use Rattle.finding_kinds.specs.declared.kind.EndedKind.{EndedKind}
-use Rattle.finding_kinds.specs.declared.kind.EndedKind.TheVariants.{Failed, Short, Severed, Canceled, TimedOut, Expired, NotFound, TooLate, WentOn}
-use Rattle.finding_kinds.specs.declared.kind.TheConstants.EndedKind.{ALL as ended_kinds}
-use Rattle.findings.specs.declared.completed.Completed.{Completed}
-use Rattle.findings.specs.declared.conditions.Before.{Before}
-use Rattle.findings.specs.declared.completed.Member.{Member}
-use Rattle.findings.specs.Endings.{Circumstances, ending_of, ended_test, is_error, is_less, is_of, is_verdict, next_in, severs}
-use Rattle.findings.specs.Given.{given}
-use Rattle.findings.specs.Completions.{is_short_of_end, is_severing, cancels, is_later, member_of, any_passes, severs_others, is_severed, is_expiry_of, expires_over, expires_over_ready, has_canceled_target, circumstances}
-use Rattle.findings.specs.Records.{row_in, of_group, of_queued, of_place, of_change, of_row, member_if, members_at, members_of, continues, severs_chain, cancels_at, severing_in, canceled_in, depends_on_others, IsListed, is_severed_in, noted, noted_by}
-use Rattle.findings.specs.Searching.{facts_before}
-use Rattle.findings.proofs.Draining.{none_past}
-use Rattle.findings.proofs.Groups.{the_finding}
-use Rattle.findings.proofs.Members.{Has, has_flat_map, none_after}
-use Rattle.findings.proofs.Notes.{AreTrue, true_notes}
-use Rattle.findings.proofs.Shown.{NeedsChange, not_completed, passes_named, row_in_requested}
-
-false_true : false ≡ true → ⊥
-false_true e = cc
-
-from_not : (b : Bool) → not b ≡ true → b ≡ false
-from_not true e = absurd (false_true e)
-from_not false e = refl
-
--- ---- tests of lists
-
-pub any_alike : {X : Type 0} (f g : X → Bool) → ((x : X) → f x ≡ g x) → (xs : List X) → list_any f xs ≡ list_any g xs
-any_alike f g h [] = refl
-any_alike f g h (x ∷ xs) = ap (λ (b : Bool). b || list_any f xs) (h x) ∙ ap (λ (b : Bool). g x || b) (any_alike f g h xs)
-
-has_passes : {X : Type 0} (test : X → Bool) (xs : List X) (x : X) → Has xs x → test x ≡ true → list_any test xs ≡ true
-has_passes test [] x h t = absurd h
-has_passes test (y ∷ ys) x (inl e) t = or_left (test y) (list_any test ys) (ap test e ∙ t)
-has_passes test (y ∷ ys) x (inr h) t = or_right (test y) (list_any test ys) (has_passes test ys x h t)
+use Rattle.findings.proofs.Common.{or_parts, ◌≡◌, ◌⊎◌, ℕ, ◌+◌, ◌<◌, ◌≤◌, Bool, true, false, cond, List, [], ◌∷◌, ◌++◌, refl, ℤ, Option, Some, None, Result, Ok, Err, OnOk, option_map, slice_get, nat_lt, ◌==◌, ◌&&◌, ◌||◌, not, option_map_or, list_any, flat_map, enumerate_from, Row, Place, Request, Value, Change, Exact, NamesOnce, is_guard, Chained, Event, Setup, Machine, view, is_transfer, Finding, Kind, Ended, EndedKind, Short, Severed, Canceled, TimedOut, ended_kinds, Completed, Before, Member, inl, inr, sym, ap, ◌∙◌, subst, arith, and_parts, and_from, and_left, and_right, or_cases, false_from_ne_true, true_from_ne_false, cases_lt, ltb-true, eqb-true, eq-eqb, list_any-append, enumerated, numbered, any_true, any_false, clash, not-true, slice_get_none, Circumstances, ending_of, ended_test, is_error, is_less, is_of, is_verdict, next_in, severs, given, is_short_of_end, is_severing, cancels, is_later, member_of, any_passes, severs_others, is_severed, is_expiry_of, expires_over, expires_over_ready, has_canceled_target, circumstances, row_in, of_group, of_queued, of_place, of_change, of_row, member_if, members_at, members_of, continues, severs_chain, cancels_at, severing_in, canceled_in, depends_on_others, IsListed, is_severed_in, noted, noted_by, facts_before}
+use Rattle.findings.proofs.{Draining.none_past, Groups.the_finding, Members.Has, Members.any_alike, Members.any_has, Members.has_flat_map, Notes.AreTrue, Notes.true_notes, Shown.NeedsChange, Shown.not_completed, Shown.passes_named, Shown.row_in_requested}
 
 -- ---- the requests that an event completes
 
@@ -65,12 +9,12 @@ if_passes fits true r row h = (refl, both (or_cases (fits (member_of r row)) fal
   where
     both : (fits (member_of r row) ≡ true) ⊎ (false ≡ true) → fits (member_of r row) ≡ true
     both (inl e) = e
-    both (inr e) = absurd (false_true e)
-if_passes fits false r row h = absurd (false_true h)
+    both (inr e) = absurd (clash e)
+if_passes fits false r row h = absurd (clash h)
 
 member_there : (b : Bool) (r : ℕ) (row : Row) → b ≡ true → Has (member_if b r row) (member_of r row)
 member_there true r row e = inl refl
-member_there false r row e = absurd (false_true e)
+member_there false r row e = absurd (clash e)
 
 -- Both tests of a numbered request.
 abbrev both_pass : (Option Row → Row → Bool) → (Member → Bool) → List Row → ℕ × Row → Bool
@@ -96,14 +40,14 @@ module _ (before next_state : Machine) (kept : ℕ → Option Row → Row → Bo
       old = ap row_in h ∙ row_in_requested (slice_get before.table r)
 
       by : (o : Option Row) → slice_get next_state.table r ≡ o → list_any fits (option_map_or (λ (row : Row). member_if (kept r (row_in x) row) r row) o []) ≡ true → any_passes test fits before.table next_state.table ≡ true
-      by None k u = absurd (false_true u)
+      by None k u = absurd (clash u)
       by (Some row) k u =
           let parts = if_passes fits (kept r (row_in x) row) r row u in
           passes_here r row k (ap (λ (o : Option Row). test o row) (sym old) ∙ only r (row_in x) row parts.0) parts.1
-  place_passes only x _ h t = absurd (false_true t)
+  place_passes only x _ h t = absurd (clash t)
 
   changes_pass : OnlyIf kept test → (cs : List Change) → AreTrue (view before) cs → list_any fits (flat_map (members_of kept next_state.table) cs) ≡ true → any_passes test fits before.table next_state.table ≡ true
-  changes_pass only [] h t = absurd (false_true t)
+  changes_pass only [] h t = absurd (clash t)
   changes_pass only (c ∷ cs) h t =
       elim (or_cases (list_any fits (members_of kept next_state.table c)) (list_any fits (flat_map (members_of kept next_state.table) cs)) (sym (list_any-append fits (members_of kept next_state.table c) (flat_map (members_of kept next_state.table) cs)) ∙ t)) [
         | inl u ↦ place_passes only c.old c.place h.0 u
@@ -113,7 +57,7 @@ module _ (before next_state : Machine) (kept : ℕ → Option Row → Row → Bo
   row_passes : AllOf kept test fits next_state.table → (cs : List Change) (r : ℕ) (row : Row) → NeedsChange test → Exact (view before) (view next_state) cs → slice_get next_state.table r ≡ Some row → test (slice_get before.table r) row ≡ true → fits (member_of r row) ≡ true
       → list_any fits (flat_map (members_of kept next_state.table) cs) ≡ true
   row_passes all cs r row needs x k t f =
-      has_passes fits (flat_map (members_of kept next_state.table) cs) (member_of r row)
+      any_has fits (flat_map (members_of kept next_state.table) cs) (member_of r row)
       (has_flat_map (members_of kept next_state.table) cs (record { place = Request r; old = view before (Request r) }) (member_of r row) (passes_named before next_state cs r row test needs x k t) placed) f
     where
       old : row_in (view before (Request r)) ≡ slice_get before.table r
@@ -131,7 +75,7 @@ module _ (before next_state : Machine) (kept : ℕ → Option Row → Row → Bo
       by false e = sym (any_false (both_pass test fits before.table) (enumerate_from 0 next_state.table) (λ i p there.
           numbered (both_pass test fits before.table) next_state.table i p (λ row k. false_from_ne_true (both_pass test fits before.table (i, row)) (λ t.
           let parts = and_parts (test (slice_get before.table i) row) (fits (member_of i row)) t in
-          false_true (sym e ∙ row_passes all cs i row needs x k parts.0 parts.1))) there))
+          clash (sym e ∙ row_passes all cs i row needs x k parts.0 parts.1))) there))
 
 severing_changes : NeedsChange is_severing
 severing_changes row = not_completed row (severs (Some row) row)
@@ -151,7 +95,7 @@ later_continues : (rows : List Row) (r q : ℕ) (row x : Row) → Chained rows �
 later_continues rows r q row x chained there k l same other = by (option_map_or is_guard (slice_get rows (r + 1)) false) refl
   where
     at : (n : ℕ) → r ≤ n → n ≤ q → (o : Option Row) → slice_get rows n ≡ o → option_map_or (λ (y : Row). y.unit == row.unit) o false ≡ true
-    at n low up None e = absurd (none_past rows n q x (none_after rows n e) up k)
+    at n low up None e = absurd (none_past rows n q x (slice_get_none rows n e) up k)
     at n low up (Some y) e =
         let first : row.unit ≤ r = chained.back r row there in
         eq-eqb y.unit row.unit (chained.run n q y x e k up (omega (arith, first, same, low)) ∙ same)
@@ -163,7 +107,7 @@ later_continues rows r q row x chained there k l same other = by (option_map_or 
           | inl past ↦ at (r + 2) (omega arith) (omega (arith, past)) (slice_get rows (r + 2)) refl
           | inr up ↦
               let next : r + 1 ≡ q = omega (arith, l, up) in
-              absurd (false_true (sym (ap (λ (o : Option Row). option_map_or is_guard o false) (ap (slice_get rows) next ∙ k) ∙ other) ∙ e))
+              absurd (clash (sym (ap (λ (o : Option Row). option_map_or is_guard o false) (ap (slice_get rows) next ∙ k) ∙ other) ∙ e))
         ]
 
 -- Whether request z severed x's chain before x.
@@ -182,10 +126,10 @@ module _ (before next_state : Machine) (cs : List Change) (x : Exact (view befor
       let parts = and_parts (cancels (slice_get before.table i) y) (is_later (member_of r row) (member_of i y)) t in
       let later = and_parts (nat_lt r i) (y.unit == row.unit) parts.1 in
       let other = and_parts (not (is_guard y)) (option_map_or (is_error 125) (ending_of (slice_get before.table i) y) false) parts.0 in
-      false_true (sym e ∙ later_continues next_state.table r i row y chained k h (ltb-true r i later.0) (eqb-true y.unit row.unit later.1) (from_not (is_guard y) other.0)))) there)
+      clash (sym e ∙ later_continues next_state.table r i row y chained k h (ltb-true r i later.0) (eqb-true y.unit row.unit later.1) (not-true (is_guard y) other.0)))) there)
 
   continues_on : (r : ℕ) (row : Row) → slice_get next_state.table r ≡ Some row → severs_others before.table next_state.table (member_of r row) ≡ true → continues next_state.table r row ≡ true
-  continues_on r row k t = true_from_ne_false (continues next_state.table r row) (λ e. false_true (sym (others_continue r row k e) ∙ t))
+  continues_on r row k t = true_from_ne_false (continues next_state.table r row) (λ e. clash (sym (others_continue r row k e) ∙ t))
 
   was_severed : (y : Member) → is_severed_in (severing_in next_state cs) (canceled_in next_state cs) y ≡ is_severed before.table next_state.table y
   was_severed y =
@@ -234,10 +178,6 @@ noted_circumstances s before e next_state cs r row x once chained k =
 
 -- ---- lists that aren't needed
 
-neither : (a b : Bool) → (a || b) ≡ false → (a ≡ false) × (b ≡ false)
-neither true b h = absurd (false_true (sym h))
-neither false b h = (refl, h)
-
 -- Equal tests give equal findings.
 group_alike : {K : Type 0} (whole : K → Kind) (f g : K → Bool) (i n : ℕ) → ((kind : K) → f kind ≡ g kind) → (kinds : List K) → of_group whole f i n kinds ≡ of_group whole g i n kinds
 group_alike whole f g i n h [] = refl
@@ -248,19 +188,15 @@ group_alike whole f g i n h (kind ∷ kinds) =
 module _ (c d : Circumstances) (short : c.short_of_end ≡ d.short_of_end) (ready : c.was_ready ≡ d.was_ready) (before : Option Row) (rows : List Row) (r : ℕ) (row : Row) where
   test_alike : (o : Option ℤ) → option_map_or (λ (res : ℤ). is_error 125 res || severs before row res) o false ≡ false → (kind : EndedKind) → option_map_or (is_of kind c before row (next_in rows r)) o false ≡ option_map_or (is_of kind d before row (next_in rows r)) o false
   test_alike None h kind = refl
-  test_alike (Some res) h Failed = refl
   test_alike (Some res) h (Short verdict) = ap (λ (b : Bool). (is_transfer row.entry.opcode && is_less res row.entry.len) && is_verdict verdict b) short
   test_alike (Some res) h Severed =
-      let none = (neither (is_error 125 res) (severs before row res) h).1 in
+      let none = (or_parts (is_error 125 res) (severs before row res) h).1 in
       ap (λ (b : Bool). b && c.severs_others) none ∙ sym (ap (λ (b : Bool). b && d.severs_others) none)
   test_alike (Some res) h Canceled =
-      let none = (neither (is_error 125 res) (severs before row res) h).0 in
+      let none = (or_parts (is_error 125 res) (severs before row res) h).0 in
       ap (λ (b : Bool). b && not c.is_named) none ∙ sym (ap (λ (b : Bool). b && not d.is_named) none)
   test_alike (Some res) h (TimedOut verdict) = ap (λ (b : Bool). (is_guard row && is_error 62 res) && is_verdict verdict b) ready
-  test_alike (Some res) h Expired = refl
-  test_alike (Some res) h NotFound = refl
-  test_alike (Some res) h TooLate = refl
-  test_alike (Some res) h WentOn = refl
+  test_alike (Some res) h kind = refl
 
   row_alike : (i : ℕ) → depends_on_others before row ≡ false → of_row i c before rows r row ≡ of_row i d before rows r row
   row_alike i h =

@@ -1,13 +1,5 @@
 -- The changes of an exact record.
-use Rattle.std.proofs.Common.{◌≡◌, inl, inr, Bool, true, false, cond, List, [], ◌∷◌, refl, sym, ap, ◌∙◌}
-use Rattle.std.proofs.lemmas.Option.{none-some, same_Some}
-use Rattle.std.specs.Prelude.{Option, Some, None}
-use Rattle.places.specs.declared.place.Place.{Place}
-use Rattle.places.specs.declared.value.Value.{Value}
-use Rattle.places.specs.declared.value.Change.{Change}
-use Rattle.places.specs.Places.{same_place}
-use Rattle.places.specs.View.{View, Exact, NamesOnce, named}
-use Rattle.places.proofs.SamePlace.{same_place_is, same_place_self}
+use Rattle.findings.proofs.Common.{◌≡◌, Bool, true, false, cond, List, [], ◌∷◌, refl, Option, Some, None, Place, Value, Change, same_place, View, Exact, NamesOnce, inl, inr, sym, ap, ◌∙◌, none-some, same_Some, same_place_is, same_place_self, named}
 use Rattle.findings.proofs.Members.{Has}
 
 -- Each change has the old value of its place.

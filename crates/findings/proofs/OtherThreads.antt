@@ -1,32 +1,6 @@
 -- An event changes no thread but the one whose step it is.
-use Rattle.std.proofs.Common.{◌≡◌, ℕ, zero, suc, Bool, true, false, List, [], ◌∷◌, length, refl, sym, ap, ◌∙◌}
-use Rattle.std.proofs.lemmas.Bool.{eq-eqb}
-use Rattle.std.specs.Prelude.{ℤ, pos, negsuc, ◌==◌, ◌&&◌, nat_lt, if◌then◌else◌, Option, Some, None, slice_get}
-use Rattle.entries.specs.declared.choice.Choice.{Choice}
-use Rattle.entries.specs.declared.row.Row.{Row}
-use Rattle.model_files.specs.Worlds.{descriptor_of, world_closed}
-use Rattle.opcodes.specs.declared.ending.Outcome.{Outcome}
-use Rattle.opcodes.specs.declared.ending.Outcome.TheVariants.{Res, Waits, BadChoice}
-use Rattle.opcodes.specs.Effects.{world_after}
-use Rattle.opcodes.specs.Opcodes.{is_cancel}
-use Rattle.opcodes.specs.Outcomes.{outcome_of}
-use Rattle.links_drains.specs.Holding.{is_held_by}
-use Rattle.places.specs.declared.value.Stage.{Stage}
-use Rattle.places.specs.declared.value.Stage.TheVariants.{Ready, Waiting}
-use Rattle.places.specs.Lists.{updated}
-use Rattle.scenario.specs.declared.event.Event.{Event}
-use Rattle.scenario.specs.declared.event.Event.TheVariants.{Step, Take, Sleep, Issue, Finish, Expire, Tick}
-use Rattle.scenario.specs.declared.setup.Instruction.{Instruction}
-use Rattle.scenario.specs.declared.setup.Instruction.TheVariants.{Put, Push, Store, Enter, Reap, Close}
-use Rattle.sqpoll.specs.declared.poller.Poller.{Poller}
-use Rattle.machine.specs.declared.whole.Machine.{Machine}
-use Rattle.machine.specs.Cancels.{verdict_of, ending_with}
-use Rattle.machine.specs.Steps.{after, all_started, answered, awaited, before_submission, cancelled, cascaded, closed, entered, entered_without_poller, entries_for, executed, expired, expiring, finished, finished_as, gets_events, held_back, is_busy, is_open, is_unknown, issued, lacks_descriptor, needed, ready_count, resumed, shown, stepped, submitted, waiting_target, woken}
-use Rattle.machine.specs.Submission.{ebadf, ebusy, einval}
-use Rattle.machine.specs.Threads.{ThreadState}
-use Rattle.machine.proofs.CascadedRows.{threads_cascaded}
-use Rattle.machine.proofs.Formed.{before_threads, shown_threads, submitted_threads, woken_threads}
-use Rattle.findings.specs.Conditions.{is_step_of}
+use Rattle.findings.proofs.Common.{◌≡◌, ℕ, zero, suc, Bool, true, false, List, [], ◌∷◌, length, refl, ℤ, pos, negsuc, ◌==◌, ◌&&◌, nat_lt, if◌then◌else◌, Option, Some, None, slice_get, Choice, Row, descriptor_of, world_closed, Outcome, Res, BadChoice, world_after, is_cancel, outcome_of, is_held_by, Stage, Ready, Waiting, updated, Event, Step, Take, Sleep, Issue, Finish, Expire, Tick, Instruction, Enter, Close, Poller, Machine, verdict_of, ending_with, after, all_started, answered, awaited, before_submission, cancelled, cascaded, closed, entered, entered_without_poller, entries_for, executed, expired, expiring, finished, finished_as, gets_events, held_back, is_busy, is_unknown, issued, lacks_descriptor, needed, ready_count, resumed, shown, stepped, submitted, waiting_target, woken, ebadf, ebusy, einval, ThreadState, sym, ap, ◌∙◌, eq-eqb, threads_cascaded, before_threads, shown_threads, submitted_threads, woken_threads, clash, Waits, is_step_of}
+use Rattle.machine.specs.Steps.{is_open}
 
 updated_other : {X : Type 0} (f : X → X) (xs : List X) (u t : ℕ) → (u ≡ t → ⊥) → slice_get (updated f xs u) t ≡ slice_get xs t
 updated_other f [] u t h = refl
@@ -80,12 +54,9 @@ module _ (m : Machine) (u t : ℕ) (other : u ≡ t → ⊥) where
 
   when_executed : (i : Option Instruction) → Keeps (executed m u i)
   when_executed None = refl
-  when_executed (Some (Put slot entry)) = one_updated _ m.threads refl
-  when_executed (Some (Push index)) = one_updated _ m.threads refl
-  when_executed (Some (Store address bytes)) = one_updated _ m.threads refl
   when_executed (Some (Enter k w flags)) = when_entered m.poller k w flags
-  when_executed (Some Reap) = one_updated _ m.threads refl
   when_executed (Some (Close fd)) = when_closed fd
+  when_executed (Some x) = one_updated _ m.threads refl
 
   when_resumed : (stage : Stage) (i : Option Instruction) → Keeps (resumed m u stage i)
   when_resumed Ready i = when_executed i
@@ -121,11 +92,8 @@ expired_threads : (m : Machine) (r : ℕ) (o : Option Row) → (expired m r o).t
 expired_threads m r None = refl
 expired_threads m r (Some row) = threads_cascaded m (expiring r (waiting_target m.table m.world row row.target))
 
-false_true : false ≡ true → ⊥
-false_true e = cc
-
 pub others_kept : (m : Machine) (e : Event) (t : ℕ) → is_step_of t e ≡ false → slice_get (after m e).threads t ≡ slice_get m.threads t
-others_kept m (Step u) t h = when_stepped m u t (λ same. false_true (sym h ∙ eq-eqb u t same)) (slice_get m.threads u)
+others_kept m (Step u) t h = when_stepped m u t (λ same. clash (sym h ∙ eq-eqb u t same)) (slice_get m.threads u)
 others_kept m (Take n) t h = ap (λ (ts : List ThreadState). slice_get ts t) (submitted_threads m n)
 others_kept m Sleep t h = refl
 others_kept m (Issue r) t h = ap (λ (ts : List ThreadState). slice_get ts t) (issued_threads m r (slice_get m.table r))

@@ -1,25 +1,6 @@
 -- The timespecs that an event overwrites are found among the pushed indexes.
-use Rattle.std.proofs.Common.{◌≡◌, inl, inr, ℕ, ◌+◌, ◌≤◌, Bool, true, false, List, [], ◌∷◌, ◌++◌, length, take, drop, get_or, refl, sym, ap, ◌∙◌}
-use Rattle.std.specs.Prelude.{Some, slice_get, ◌==◌, ◌||◌, ◌&&◌}
-use Rattle.std.specs.List.{All, flat_map, list_any}
-use Rattle.std.proofs.lemmas.Bool.{and_parts, and_from, eqb-true, eq-eqb}
-use Rattle.std.proofs.lemmas.Grind.{take_at_read}
-use Rattle.std.proofs.lemmas.List.{flat_map_more, take_all}
-use Rattle.std.proofs.lemmas.List.Elements.{All-nil, All-append}
-use Rattle.std.proofs.lemmas.Option.{slice_get_within, get_or_from_slice_get}
-use Rattle.entries.specs.declared.entry.Sqe.{Sqe}
-use Rattle.machine.specs.declared.whole.Machine.{Machine}
-use Rattle.finding_kinds.specs.declared.finding.Finding.{Finding}
-use Rattle.finding_kinds.specs.declared.kind.Kind.TheVariants.{TimespecInUse}
-use Rattle.findings.specs.declared.effect.Effect.{Effect}
-use Rattle.findings.specs.declared.effect.Effect.TheVariants.{Nothing, Stored, Finished}
-use Rattle.findings.specs.declared.uses.Sought.TheVariants.{Named}
-use Rattle.findings.specs.Given.{given}
-use Rattle.findings.specs.Timespecs.{written_by, is_over_slot, overwrites, of_index, of_timespecs}
-use Rattle.findings.specs.Uses.{is_sought, is_pushed_last, pushed_last}
-use Rattle.findings.proofs.Groups.{the_finding, given_only, given_there}
-use Rattle.findings.proofs.Members.{Has, has_flat_map}
-use Rattle.findings.proofs.Waiting.{drop_get}
+use Rattle.findings.proofs.Common.{◌≡◌, ℕ, ◌+◌, ◌≤◌, Bool, true, false, List, [], ◌∷◌, ◌++◌, length, take, drop, get_or, refl, Some, slice_get, ◌==◌, ◌||◌, ◌&&◌, All, flat_map, list_any, Sqe, Machine, Finding, TimespecInUse, Effect, Nothing, Named, inl, inr, sym, ap, ◌∙◌, and_parts, and_from, eqb-true, eq-eqb, take_at_read, flat_map_more, take_all, All-nil, All-append, slice_get_within, get_or_from_slice_get, given, written_by, is_over_slot, overwrites, of_index, of_timespecs, is_sought, is_pushed_last, pushed_last}
+use Rattle.findings.proofs.{Groups.given_only, Groups.given_there, Groups.the_finding, Members.Has, Members.has_flat_map, Waiting.drop_get}
 
 -- ---- one pushed index after the other
 
@@ -77,8 +58,7 @@ over_pushed m range slot h t = and_from (is_pushed_last m.submissions slot) (is_
 
 pub timespecs_only : (P : Finding → Type 0) (i : ℕ) (m : Machine) (d : Effect) → ((slot : ℕ) → overwrites m d slot ≡ true → P (the_finding i TimespecInUse slot)) → All P (of_timespecs i m d)
 timespecs_only P i m Nothing h = All-nil P
-timespecs_only P i m (Stored address n) h = indexes_only P i m.submissions.slots (written_by (Stored address n)) (pushed_last m.submissions) (λ slot there t. h slot (over_pushed m (written_by (Stored address n)) slot there t))
-timespecs_only P i m (Finished r row) h = indexes_only P i m.submissions.slots (written_by (Finished r row)) (pushed_last m.submissions) (λ slot there t. h slot (over_pushed m (written_by (Finished r row)) slot there t))
+timespecs_only P i m d h = indexes_only P i m.submissions.slots (written_by d) (pushed_last m.submissions) (λ slot there t. h slot (over_pushed m (written_by d) slot there t))
 
 -- ---- nothing left out
 
@@ -91,5 +71,4 @@ slot_there i m range slot h =
 
 pub timespecs_there : (i : ℕ) (m : Machine) (d : Effect) (slot : ℕ) → overwrites m d slot ≡ true → Has (of_timespecs i m d) (the_finding i TimespecInUse slot)
 timespecs_there i m Nothing slot h = cc
-timespecs_there i m (Stored address n) slot h = slot_there i m (written_by (Stored address n)) slot h
-timespecs_there i m (Finished r row) slot h = slot_there i m (written_by (Finished r row)) slot h
+timespecs_there i m d slot h = slot_there i m (written_by d) slot h

@@ -1,29 +1,10 @@
 -- Changes of other places than requests add no findings, and complete no request.
-use Rattle.std.proofs.Common.{◌≡◌, ℕ, ◌+◌, Bool, true, false, List, [], ◌∷◌, ◌++◌, refl, sym, ap, ◌∙◌}
-use Rattle.std.proofs.lemmas.Grind.{flat_map-append}
-use Rattle.std.proofs.lemmas.List.{append_assoc}
-use Rattle.std.specs.Prelude.{Option, Some, None, Result, Ok, Err, OnOk}
-use Rattle.std.specs.List.{flat_map}
-use Rattle.entries.specs.declared.row.Row.{Row}
-use Rattle.places.specs.declared.notes.runs.Region.{Region}
-use Rattle.places.specs.declared.notes.runs.Region.TheVariants.{Memory, File, Durable, Pipe}
-use Rattle.places.specs.declared.place.Place.{Place}
-use Rattle.places.specs.declared.place.Place.TheVariants.{Request}
-use Rattle.places.specs.declared.value.Change.{Change}
-use Rattle.places.specs.declared.value.Value.{Value}
-use Rattle.places.specs.Runs.{place_in, old_bytes}
-use Rattle.places.specs.View.{View}
-use Rattle.finding_kinds.specs.declared.finding.Finding.{Finding}
-use Rattle.findings.specs.declared.completed.Member.{Member}
-use Rattle.findings.specs.Endings.{Circumstances}
-use Rattle.findings.specs.Records.{of_place, of_change, members_at, members_of, after_note, after_notes, is_row, OfNoRow}
+use Rattle.findings.proofs.Common.{◌≡◌, ℕ, ◌+◌, Bool, false, List, [], ◌∷◌, ◌++◌, refl, Option, Some, None, Result, Ok, Err, OnOk, flat_map, Row, Region, Memory, Place, Request, Change, Value, place_in, old_bytes, View, Finding, Member, sym, ap, ◌∙◌, flat_map-append, clash, append_assoc, Circumstances, of_place, of_change, members_at, members_of, after_note, after_notes, is_row, OfNoRow}
 
 -- A byte is no request.
 byte_no_row : (g : Region) (i : ℕ) → is_row (place_in g i) ≡ false
 byte_no_row Memory i = refl
-byte_no_row (File o) i = refl
-byte_no_row (Durable o) i = refl
-byte_no_row (Pipe o) i = refl
+byte_no_row g i = refl
 
 -- Recorded bytes of a region belong to no request.
 pub bytes_no_row : (g : Region) (s : ℕ) (os : List (Option ℕ)) (cs : List Change) → OfNoRow cs → OfNoRow (old_bytes g s os ++ cs)
@@ -31,11 +12,8 @@ bytes_no_row g s [] cs h = h
 bytes_no_row g s (None ∷ os) cs h = bytes_no_row g (s + 1) os cs h
 bytes_no_row g s (Some b ∷ os) cs h = (byte_no_row g s, bytes_no_row g (s + 1) os cs h)
 
-true_false : true ≡ false → ⊥
-true_false e = cc
-
 place_follows_none : (v : View) (ns : List ℕ) (x : Option Value) (p : Place) → is_row p ≡ false → after_note v ns x p ≡ ns
-place_follows_none v ns x (Request r) e = absurd (true_false e)
+place_follows_none v ns x (Request r) e = absurd (clash (sym e))
 place_follows_none v ns x _ e = refl
 
 -- A function of changes that gives nothing for changes of other places than requests.
@@ -70,7 +48,7 @@ parts_given {X} f of_rows all cs bs ds xs ys zs e h g k =
 
 -- The findings about requests.
 place_shows_none : (i : ℕ) (circumstances_of : ℕ → Row → Circumstances) (rows : List Row) (x : Option Value) (p : Place) → is_row p ≡ false → of_place i circumstances_of rows x p ≡ []
-place_shows_none i circumstances_of rows x (Request r) e = absurd (true_false e)
+place_shows_none i circumstances_of rows x (Request r) e = absurd (clash (sym e))
 place_shows_none i circumstances_of rows x _ e = refl
 
 pub all_shown : {V E : Type 0} (r : Result V E) (i : ℕ) (circumstances_of : ℕ → Row → Circumstances) (rows : List Row) (all cs bs ds : List Change) (fs gs hs : List Finding) → all ≡ cs ++ (bs ++ ds) → OfNoRow bs → gs ≡ fs ++ flat_map (of_change i circumstances_of rows) cs
@@ -80,7 +58,7 @@ all_shown (Err x) i circumstances_of rows all cs bs ds fs gs hs e h g k = tt
 
 -- The requests that pass a test.
 place_has_none : (test : ℕ → Option Row → Row → Bool) (rows : List Row) (x : Option Value) (p : Place) → is_row p ≡ false → members_at test rows x p ≡ []
-place_has_none test rows x (Request r) e = absurd (true_false e)
+place_has_none test rows x (Request r) e = absurd (clash (sym e))
 place_has_none test rows x _ e = refl
 
 pub all_members : (test : ℕ → Option Row → Row → Bool) (rows : List Row) (all cs bs ds : List Change) (xs ys zs : List Member) → all ≡ cs ++ (bs ++ ds) → OfNoRow bs → xs ≡ [] → ys ≡ xs ++ flat_map (members_of test rows) cs → zs ≡ ys ++ flat_map (members_of test rows) ds

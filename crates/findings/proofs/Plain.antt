@@ -1,23 +1,8 @@
 -- Completions that are findings of no kind.
-use Rattle.std.proofs.Common.{◌≡◌, ℕ, Bool, false, List, [], ◌∷◌, ◌++◌, refl, sym, ap, ◌∙◌}
-use Rattle.std.proofs.lemmas.Bool.{and_left, and_right, or_parts}
+use Rattle.findings.proofs.Common.{◌≡◌, ℕ, Bool, false, List, [], ◌∷◌, ◌++◌, refl, ℤ, Option, Some, None, ◌==◌, ◌&&◌, option_map_or, Row, is_cancel, has_flag, is_guard, is_soft_linked, is_bad, is_negative, is_transfer, Finding, Kind, EndedKind, Failed, Short, Severed, Canceled, TimedOut, Expired, NotFound, TooLate, WentOn, ended_kinds, sym, ap, ◌∙◌, and_left, and_right, or_parts, Circumstances, ending_of, ended_test, is_error, is_less, is_of, leaves_chain, next_in, severs, given, of_group, of_ended, is_notable}
 use Rattle.std.proofs.lemmas.List.{append-nil}
-use Rattle.std.specs.Prelude.{ℤ, Option, Some, None, ◌==◌, ◌&&◌}
-use Rattle.std.specs.Option.{option_map_or}
-use Rattle.entries.specs.declared.row.Row.{Row}
-use Rattle.opcodes.specs.Opcodes.{is_cancel}
-use Rattle.links_drains.specs.Links.{has_flag, is_guard, is_soft_linked}
-use Rattle.timeouts_cancel.specs.Cascades.{is_bad, is_negative, is_transfer}
-use Rattle.finding_kinds.specs.declared.finding.Finding.{Finding}
-use Rattle.finding_kinds.specs.declared.kind.Kind.{Kind}
-use Rattle.finding_kinds.specs.declared.kind.Kind.TheVariants as group
-use Rattle.finding_kinds.specs.declared.kind.EndedKind.{EndedKind}
-use Rattle.finding_kinds.specs.declared.kind.EndedKind.TheVariants.{Failed, Short, Severed, Canceled, TimedOut, Expired, NotFound, TooLate, WentOn}
-use Rattle.finding_kinds.specs.declared.kind.TheConstants.EndedKind.{ALL as ended_kinds}
-use Rattle.findings.specs.Endings.{Circumstances, ending_of, ended_test, is_error, is_less, is_of, leaves_chain, next_in, severs}
-use Rattle.findings.specs.Given.{given}
-use Rattle.findings.specs.Records.{of_group, of_ended, is_notable}
 use Rattle.findings.proofs.Groups.{the_finding}
+use Rattle.finding_kinds.specs.declared.kind.Kind.TheVariants as group
 
 -- If no kind of a group passes, there are no findings.
 group_none : {K : Type 0} (whole : K → Kind) (test : K → Bool) (i n : ℕ) → ((kind : K) → test kind ≡ false) → (kinds : List K) → of_group whole test i n kinds ≡ []

@@ -1,48 +1,9 @@
 -- The findings computed from the record of an event are those of the event.
-use Rattle.std.proofs.Common.{◌≡◌, ℕ, zero, Bool, true, false, cond, List, [], ◌∷◌, ◌++◌, refl, sym, ap, ◌∙◌, subst}
-use Rattle.std.proofs.lemmas.List.Elements.{All-nil, All-append}
-use Rattle.std.proofs.lemmas.Bool.{and_parts, and_from, eqb-true, eq-eqb}
-use Rattle.std.specs.Prelude.{Option, Some, None, option_map, slice_get, ℤ, ◌==◌, ◌&&◌, not}
-use Rattle.std.specs.Option.{option_map_or}
-use Rattle.std.specs.List.{All, flat_map}
-use Rattle.entries.specs.declared.row.Phase.{Phase}
-use Rattle.entries.specs.declared.row.Phase.TheVariants.{Queued, Issued, Ended}
-use Rattle.entries.specs.declared.row.Row.{Row}
-use Rattle.places.specs.declared.place.Place.{Place}
-use Rattle.places.specs.declared.place.Place.TheVariants.{Request}
-use Rattle.places.specs.declared.value.Value.{Value}
-use Rattle.places.specs.declared.value.Value.TheVariants.{Requested}
-use Rattle.places.specs.declared.value.Change.{Change}
-use Rattle.places.specs.View.{Exact, NamesOnce}
-use Rattle.links_drains.specs.Phases.{is_ended}
-use Rattle.scenario.specs.declared.event.Event.{Event}
-use Rattle.scenario.specs.declared.event.Event.TheVariants.{Step}
-use Rattle.scenario.specs.declared.setup.Instruction.{Instruction}
-use Rattle.scenario.specs.declared.setup.Setup.{Setup}
-use Rattle.machine.specs.declared.whole.Machine.{Machine}
-use Rattle.machine.specs.Whole.{view}
-use Rattle.finding_kinds.specs.declared.finding.Finding.{Finding}
-use Rattle.finding_kinds.specs.declared.kind.Kind.{Kind}
-use Rattle.finding_kinds.specs.declared.kind.Kind.TheVariants as group
-use Rattle.finding_kinds.specs.declared.kind.EndedKind.{EndedKind}
-use Rattle.finding_kinds.specs.declared.kind.StepKind.{StepKind}
-use Rattle.finding_kinds.specs.declared.kind.QueuedKind.{QueuedKind}
-use Rattle.finding_kinds.specs.declared.kind.CancelKind.{CancelKind}
-use Rattle.finding_kinds.specs.declared.kind.TheConstants.EndedKind.{ALL as ended_kinds}
-use Rattle.finding_kinds.specs.declared.kind.TheConstants.StepKind.{ALL as step_kinds}
-use Rattle.finding_kinds.specs.declared.kind.TheConstants.QueuedKind.{ALL as queued_kinds}
-use Rattle.finding_kinds.specs.declared.kind.TheConstants.CancelKind.{ALL as cancel_kinds}
-use Rattle.findings.specs.Endings.{Circumstances, ending_of, result_in, next_in, is_of, ended_test, queued_test}
-use Rattle.findings.specs.Completions.{circumstances}
-use Rattle.findings.specs.Conditions.{overflows, done_by, is_step_of, is_of_step}
-use Rattle.findings.specs.Uses.{changes_slot, changes_at}
-use Rattle.findings.specs.Canceling.{cancel_before, is_of_cancel, cancel_shows}
+use Rattle.findings.proofs.Common.{◌≡◌, ℕ, zero, Bool, true, false, cond, List, [], ◌∷◌, ◌++◌, refl, Option, Some, None, option_map, slice_get, ℤ, ◌==◌, ◌&&◌, not, option_map_or, All, flat_map, Phase, Row, Place, Request, Value, Requested, Change, Exact, NamesOnce, is_ended, Event, Step, Instruction, Setup, Machine, view, Finding, Kind, EndedKind, StepKind, QueuedKind, CancelKind, ended_kinds, step_kinds, queued_kinds, cancel_kinds, sym, ap, ◌∙◌, subst, All-nil, All-append, and_parts, and_from, eqb-true, eq-eqb, clash, Circumstances, ending_of, result_in, next_in, is_of, ended_test, queued_test, circumstances, overflows, done_by, is_step_of, is_of_step, changes_slot, changes_at, cancel_before, is_of_cancel, cancel_shows, ends, comes, spills, step_shows, occurs, of_ended, of_queued, of_row, row_in, of_place, of_change, of_overflow, of_instruction, of_step, of_cancel, of_event}
+use Rattle.entries.specs.declared.row.Phase.TheVariants.{Ended, Queued}
 use Rattle.findings.specs.declared.canceling.Cancel.{Cancel}
-use Rattle.findings.specs.Findings.{ends, comes, spills, step_shows, occurs}
-use Rattle.findings.specs.Records.{of_ended, of_queued, of_row, row_in, of_place, of_change, of_overflow, of_instruction, of_step, of_cancel, of_event}
-use Rattle.findings.proofs.Groups.{the_finding, given_only, given_there, group_only, group_there, is_ended_kind, is_step_kind, is_queued_kind, is_cancel_kind}
-use Rattle.findings.proofs.Members.{Has, has_left, has_right, has_flat_map}
-use Rattle.findings.proofs.Notes.{AreTrue, true_notes, is_named, change_there}
+use Rattle.findings.proofs.{Groups.given_only, Groups.given_there, Groups.group_only, Groups.group_there, Groups.is_cancel_kind, Groups.is_ended_kind, Groups.is_queued_kind, Groups.is_step_kind, Groups.the_finding, Members.Has, Members.has_flat_map, Members.has_left, Members.has_right, Notes.AreTrue, Notes.change_there, Notes.is_named, Notes.true_notes}
+use Rattle.finding_kinds.specs.declared.kind.Kind.TheVariants as group
 
 -- A finding of event i, which leads from one machine to another.
 abbrev pub IsShown : Setup → ℕ → Machine → Event → Machine → Finding → Type 0
@@ -51,9 +12,6 @@ IsShown s i before e next_state f = (f.moment ≡ i) × (occurs s f.kind before 
 pub row_in_requested : (o : Option Row) → row_in (option_map Requested o) ≡ o
 row_in_requested None = refl
 row_in_requested (Some row) = refl
-
-false_true : false ≡ true → ⊥
-false_true e = cc
 
 -- ---- nothing else
 
@@ -95,9 +53,8 @@ pub not_completed : (row : Row) (f : ℤ → Bool) → option_map_or f (ending_o
 not_completed row f = by row.phase
   where
     by : (p : Phase) → option_map_or f (cond (is_ended p) None (result_in p)) false ≡ false
-    by Queued = refl
-    by Issued = refl
     by (Ended res) = refl
+    by p = refl
 
 -- It has no finding.
 ended_unchanged : (kind : EndedKind) (c : Circumstances) (rows : List Row) (r : ℕ) (row : Row) → ended_test kind c (Some row) rows r row ≡ false
@@ -115,7 +72,7 @@ passes_named before next_state cs r row test needs x k t = change_there cs (Requ
     differs : view before (Request r) ≡ view next_state (Request r) → ⊥
     differs e =
         let same : slice_get before.table r ≡ Some row = sym (row_in_requested (slice_get before.table r)) ∙ ap row_in e ∙ row_in_requested (slice_get next_state.table r) ∙ k in
-        false_true (sym (needs row) ∙ ap (λ (o : Option Row). test o row) (sym same) ∙ t)
+        clash (sym (needs row) ∙ ap (λ (o : Option Row). test o row) (sym same) ∙ t)
 
 -- A finding about a request, by a test that only a request that changes passes, is computed from the
 -- record.
@@ -137,7 +94,7 @@ place_there s i before e next_state cs kind r test needs row_has x h = by (slice
         has_flat_map (of_change i (circumstances s before e next_state) next_state.table) cs (record { place = Request r; old = view before (Request r) }) (the_finding i kind r) named placed
 
     by : (o : Option Row) → slice_get next_state.table r ≡ o → option_map_or (test (slice_get before.table r)) o false ≡ true → Has (flat_map (of_change i (circumstances s before e next_state) next_state.table) cs) (the_finding i kind r)
-    by None k t = absurd (false_true t)
+    by None k t = absurd (clash t)
     by (Some row) k t = with_row row k t
 
 -- Each finding of the event about a request is computed from the record.
@@ -198,16 +155,16 @@ overflow_there i before next_state n h =
 
 step_there : (i : ℕ) (kind : StepKind) (before : Machine) (o : Option Instruction) (e : Event) (next_state : Machine) (n : ℕ) → is_step_of n e ≡ true → option_map_or (λ (x : Instruction). is_of_step kind (changes_slot before x) x next_state n) o false ≡ true
     → Has (of_step i (changes_at before o) o e next_state) (the_finding i (group.Step kind) n)
-step_there i kind before None (Step t) next_state n a b = absurd (false_true b)
+step_there i kind before None (Step t) next_state n a b = absurd (clash b)
 step_there i kind before (Some x) (Step t) next_state n a b =
     let same : t ≡ n = eqb-true t n a in
     let here : is_of_step kind (changes_slot before x) x next_state t ≡ true = ap (is_of_step kind (changes_slot before x) x next_state) same ∙ b in
     subst (λ (k : ℕ). Has (of_instruction i (changes_slot before x) x next_state t) (the_finding i (group.Step kind) k)) same
     (group_there group.Step (λ (k : StepKind). is_of_step k (changes_slot before x) x next_state t) i t step_kinds kind (is_step_kind kind) here)
-step_there i kind before o _ next_state n a b = absurd (false_true a)
+step_there i kind before o _ next_state n a b = absurd (clash a)
 
 cancel_there : (i : ℕ) (kind : CancelKind) (o : Option Cancel) (rows : List Row) (n : ℕ) → option_map_or (λ (x : Cancel). (x.number == n) && is_of_cancel kind x rows) o false ≡ true → Has (of_cancel i o rows) (the_finding i (group.Cancel kind) n)
-cancel_there i kind None rows n h = absurd (false_true h)
+cancel_there i kind None rows n h = absurd (clash h)
 cancel_there i kind (Some x) rows n h =
     let parts = and_parts (x.number == n) (is_of_cancel kind x rows) h in
     subst (λ (k : ℕ). Has (of_cancel i (Some x) rows) (the_finding i (group.Cancel kind) k)) (eqb-true x.number n parts.0)

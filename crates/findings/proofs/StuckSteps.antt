@@ -1,32 +1,5 @@
 -- A thread is stuck exactly if a ring is the reason why its next step is refused.
-use Rattle.std.proofs.Common.{◌≡◌, ℕ, ◌<◌, Bool, true, false, refl, sym, ap, ◌∙◌, arith, List, [], ◌∷◌, length, map}
-use Rattle.std.proofs.lemmas.Bool.{lt-ltb}
-use Rattle.std.proofs.lemmas.List.{length-map}
-use Rattle.std.proofs.lemmas.Option.{slice_get_within}
-use Rattle.std.specs.Prelude.{Option, Some, None, option_map, slice_get, not, nat_lt, ◌&&◌, if◌then◌else◌, zero, suc}
-use Rattle.std.specs.Option.{option_map_or, option_and_then}
-use Rattle.places.specs.declared.value.Stage.{Stage}
-use Rattle.places.specs.declared.value.Stage.TheVariants.{Ready, Waiting}
-use Rattle.scenario.specs.declared.event.Event.TheVariants.{Step}
-use Rattle.scenario.specs.declared.event.Refusal.{Refusal}
-use Rattle.scenario.specs.declared.event.Refusal.TheVariants.{SqFull, NothingToReap, StillWaiting, RequestsFull}
-use Rattle.scenario.specs.declared.setup.Instruction.{Instruction}
-use Rattle.scenario.specs.declared.setup.Instruction.TheVariants.{Put, Push, Store, Enter, Reap, Close}
-use Rattle.scenario.specs.declared.setup.Setup.{Setup}
-use Rattle.sqpoll.specs.declared.poller.Poller.{Poller}
-use Rattle.machine.specs.declared.whole.Machine.{Machine}
-use Rattle.machine.specs.Steps.{refusal, thread_refusal, next_refusal, instruction_refusal, enter_refusal, alone_refusal, submission_refusal, before_submission, is_busy, is_unknown}
-use Rattle.machine.specs.Threads.{ThreadState, program_of}
-use Rattle.finding_kinds.specs.Programs.{instruction_at}
-use Rattle.findings.specs.Conditions.{is_held_up, is_blocked, is_stuck, is_of_ring}
-
-pub and_false : (b : Bool) → (b && false) ≡ false
-and_false true = refl
-and_false false = refl
-
-pub and_true : (b : Bool) → (b && true) ≡ b
-and_true true = refl
-and_true false = refl
+use Rattle.findings.proofs.Common.{and-true, and-false, ◌≡◌, ℕ, ◌<◌, Bool, true, false, refl, List, length, map, Option, Some, None, option_map, slice_get, not, nat_lt, ◌&&◌, if◌then◌else◌, option_map_or, option_and_then, Stage, Ready, Waiting, Step, Refusal, SqFull, NothingToReap, StillWaiting, RequestsFull, Instruction, Push, Enter, Reap, Setup, Poller, Machine, refusal, thread_refusal, next_refusal, instruction_refusal, enter_refusal, alone_refusal, submission_refusal, before_submission, is_busy, is_unknown, ThreadState, program_of, instruction_at, sym, ap, ◌∙◌, arith, lt-ltb, length-map, slice_get_within, slice_get-map, is_held_up, is_blocked, is_stuck, is_of_ring}
 
 if_full : (b : Bool) → b ≡ is_of_ring (if b then Some SqFull else None)
 if_full true = refl
@@ -53,23 +26,15 @@ enter m (Some p) k flags = refl
 enter m None k flags = if_none (is_unknown flags) (alone_refusal m k flags) (if_none (is_busy (before_submission m k flags) k) (submission_refusal (before_submission m k flags) k) (if_large _))
 
 instruction : (m : Machine) (x : Instruction) → is_blocked m x ≡ is_of_ring (instruction_refusal m x)
-instruction m (Put slot entry) = refl
 instruction m (Push index) = if_full _
-instruction m (Store address bytes) = refl
 instruction m (Enter to_submit min_complete flags) = enter m m.poller to_submit flags
 instruction m Reap = if_empty _
-instruction m (Close fd) = refl
+instruction m x = refl
 
 next : (m : Machine) (stage : Stage) (o : Option Instruction) → (option_map_or (is_blocked m) o false && not (is_held_up stage)) ≡ is_of_ring (next_refusal m stage o)
 next m stage None = refl
-next m Ready (Some x) = and_true (is_blocked m x) ∙ instruction m x
-next m (Waiting n w) (Some x) = and_false (is_blocked m x) ∙ if_waiting _
-
--- The programs of a setup, by its machine's threads.
-program_there : (xs : List ThreadState) (t : ℕ) → slice_get (map program_of xs) t ≡ option_map program_of (slice_get xs t)
-program_there [] t = refl
-program_there (x ∷ xs) zero = refl
-program_there (x ∷ xs) (suc t) = program_there xs t
+next m Ready (Some x) = and-true (is_blocked m x) ∙ instruction m x
+next m (Waiting n w) (Some x) = and-false (is_blocked m x) ∙ if_waiting _
 
 -- Whether thread t is stuck, by its state.
 abbrev pub stuck_in : Setup → Machine → ℕ → Option ThreadState → Bool
@@ -81,9 +46,9 @@ pub stuck_refused : (s : Setup) (m : Machine) (t : ℕ) → map program_of m.thr
 stuck_refused s m t programs = by (slice_get m.threads t) refl
   where
     by : (o : Option ThreadState) → slice_get m.threads t ≡ o → stuck_in s m t o ≡ is_of_ring (thread_refusal m o)
-    by None e = and_false (nat_lt t (length s.threads))
+    by None e = and-false (nat_lt t (length s.threads))
     by (Some x) e =
-        let there : slice_get s.threads t ≡ Some x.program = ap (λ (ps : List (List Instruction)). slice_get ps t) (sym programs) ∙ program_there m.threads t ∙ ap (option_map program_of) e in
+        let there : slice_get s.threads t ≡ Some x.program = ap (λ (ps : List (List Instruction)). slice_get ps t) (sym programs) ∙ slice_get-map program_of m.threads t ∙ ap (option_map program_of) e in
         let below : t < length m.threads = slice_get_within m.threads t x e in
         let same : length m.threads ≡ length s.threads = sym (length-map m.threads program_of) ∙ ap length programs in
         let within : nat_lt t (length s.threads) ≡ true = lt-ltb t (length s.threads) (omega (arith, below, same)) in

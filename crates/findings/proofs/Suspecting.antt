@@ -1,42 +1,6 @@
 -- WRITEs and FSYNCs that a search has followed, after one more event.
-use Rattle.std.proofs.Common.{◌≡◌, ◌⊎◌, inl, inr, ℕ, ℤ, zero, suc, ◌+◌, ◌-◌, ◌<◌, Bool, true, false, cond, not, List, [], ◌∷◌, ◌++◌, length, refl, sym, ap, ◌∙◌, subst, arith, append-nil}
-use Rattle.std.proofs.lemmas.Bool.{cases_lt, and_from, and_parts, eqb-true, eq-eqb, MatchBool-at_true, MatchBool-at_false}
-use Rattle.std.proofs.lemmas.Grind.{flat_map-append}
-use Rattle.std.proofs.lemmas.List.Elements.{All-nil, All-cons, All-append, All-weaker, Contains-append_left, Contains-append_right}
-use Rattle.std.proofs.lemmas.Option.{none-some, same_Some, slice_get_within, slice_get_past}
-use Rattle.std.specs.Bool.{MatchBool}
-use Rattle.std.specs.Prelude.{Option, Some, None, option_map, slice_get, nat_lt, ◌==◌, ◌&&◌, ◌||◌}
-use Rattle.std.specs.Option.{option_map_or, option_and_then, option_to_list}
-use Rattle.std.specs.List.{All, Contains}
-use Rattle.entries.specs.declared.row.Row.{Row}
-use Rattle.places.specs.declared.object.Contents.{Contents}
-use Rattle.places.specs.declared.object.Contents.TheVariants.{File}
-use Rattle.places.specs.declared.object.Descriptor.{Descriptor}
-use Rattle.places.specs.declared.object.Object.{Object}
-use Rattle.scenario.specs.declared.event.Event.{Event}
-use Rattle.scenario.specs.declared.setup.Setup.{Setup}
-use Rattle.machine.specs.declared.whole.Machine.{Machine}
-use Rattle.machine.specs.Runs.{moment as machine_at}
-use Rattle.machine.specs.Steps.{number_in}
-use Rattle.finding_kinds.specs.declared.finding.Finding.{Finding}
-use Rattle.finding_kinds.specs.declared.kind.Kind.{Kind}
-use Rattle.finding_kinds.specs.declared.kind.Kind.TheVariants.{FsyncRetried}
-use Rattle.findings.specs.declared.writes.Fsync.{Fsync}
-use Rattle.findings.specs.declared.writes.Written.{Written}
-use Rattle.findings.specs.declared.effect.Effect.{Effect}
-use Rattle.findings.specs.declared.effect.Effect.TheVariants.{Nothing, Finished}
-use Rattle.findings.specs.Conflicts.{file_number, file_of_descriptor, file_numbered, file_of, begins, moved}
-use Rattle.findings.specs.Durability.{is_volatile_at, completed_by, completed_at, written_of, written_at, written_before, moves, has_ended_with, fsync_of, fsync_at, failed, good, IsSuspect, IsRetried}
-use Rattle.findings.specs.Findings.{IsRetriedAt, Retries}
-use Rattle.findings.specs.Records.{given, RetriedBefore}
-use Rattle.findings.specs.Suspects.{is_marked, is_fsync_of, SaysMarked, AddsRetried, Follows, FollowsFiles}
-use Rattle.findings.specs.Watched.{numbers_below}
-use Rattle.findings.proofs.Groups.{the_finding}
-use Rattle.findings.proofs.Marks.{marked_past, marks_kept, marks_same, marks_both}
-use Rattle.findings.proofs.Members.{has_contains}
-
-false_true : false ≡ true → ⊥
-false_true e = cc
+use Rattle.findings.proofs.Common.{◌≡◌, ◌⊎◌, ℕ, ℤ, zero, suc, ◌+◌, ◌-◌, ◌<◌, Bool, true, false, cond, not, List, [], ◌∷◌, ◌++◌, length, refl, MatchBool, Option, Some, None, option_map, slice_get, nat_lt, ◌==◌, ◌&&◌, ◌||◌, option_map_or, option_and_then, option_to_list, All, Contains, Row, Contents, File, Descriptor, Object, Event, Setup, Machine, machine_at, number_in, Finding, Kind, FsyncRetried, Fsync, Written, Effect, Nothing, Finished, inl, inr, sym, ap, ◌∙◌, subst, arith, append-nil, cases_lt, and_from, and_parts, eqb-true, eq-eqb, MatchBool-at_true, MatchBool-at_false, flat_map-append, All-nil, All-cons, All-append, All-weaker, Contains-append_left, Contains-append_right, none-some, same_Some, slice_get_within, slice_get_past, clash, file_number, file_of_descriptor, file_numbered, file_of, begins, moved, is_volatile_at, completed_by, completed_at, written_of, written_at, written_before, moves, has_ended_with, fsync_of, fsync_at, failed, good, IsSuspect, IsRetried, IsRetriedAt, Retries, given, RetriedBefore, is_marked, is_fsync_of, SaysMarked, AddsRetried, Follows, FollowsFiles, numbers_below}
+use Rattle.findings.proofs.{Groups.the_finding, Marks.marked_past, Marks.marks_both, Marks.marks_kept, Marks.marks_same, Members.has_contains}
 
 -- ---- files are objects of the setup
 
@@ -123,12 +87,12 @@ writes_below s es (suc n) =
 decide_more : (P Q : Type 0) (a w g : Bool) → MatchBool a P (P → ⊥) → (w ≡ false → P → Q) → (g ≡ true → Q) → (Q → ((w ≡ false) × P) ⊎ (g ≡ true)) → MatchBool ((a && not w) || g) Q (Q → ⊥)
 decide_more P Q true false g h stays comes splits = stays refl h
 decide_more P Q true true true h stays comes splits = comes refl
-decide_more P Q true true false h stays comes splits = λ q. elim (splits q) [ inl p ↦ false_true (sym p.0) | inr e ↦ false_true e ]
+decide_more P Q true true false h stays comes splits = λ q. elim (splits q) [ inl p ↦ clash (sym p.0) | inr e ↦ clash e ]
 decide_more P Q false w true h stays comes splits = comes refl
-decide_more P Q false w false h stays comes splits = λ q. elim (splits q) [ inl p ↦ h p.1 | inr e ↦ false_true e ]
+decide_more P Q false w false h stays comes splits = λ q. elim (splits q) [ inl p ↦ h p.1 | inr e ↦ clash e ]
 
 fsync_is : (x : Option Fsync) (o : ℕ) → is_fsync_of x o ≡ true → (r : ℕ) × (x ≡ Some (record { row = r; file = o }))
-fsync_is None o e = absurd (false_true e)
+fsync_is None o e = absurd (clash e)
 fsync_is (Some y) o e = (y.row, ap (λ (f : ℕ). Some (the_fsync y.row f)) (eqb-true y.file o e))
 
 module _ (s : Setup) (es : List Event) (i o k : ℕ) where

@@ -1,15 +1,5 @@
 -- A run has the threads of its setup.
-use Rattle.std.proofs.Common.{◌≡◌, ℕ, ◌+◌, List, length, sym, ap, ◌∙◌}
-use Rattle.std.proofs.lemmas.List.{length-map}
-use Rattle.places.specs.declared.value.Change.{Change}
-use Rattle.scenario.specs.declared.event.Event.{Event}
-use Rattle.scenario.specs.declared.setup.Setup.{Setup}
-use Rattle.machine.specs.declared.whole.Machine.{Machine}
-use Rattle.machine.specs.Threads.{program_of, thread_start}
-use Rattle.machine.specs.Whole.{Grows}
-use Rattle.machine.specs.Runs.{start, moment as machine_at}
-use Rattle.machine.proofs.Growing.{grows_after}
-use Rattle.runs.specs.Moments.{IsAfter}
+use Rattle.findings.proofs.Common.{◌≡◌, ℕ, ◌+◌, List, length, Change, Event, Setup, Machine, program_of, thread_start, Grows, start, machine_at, IsAfter, sym, ap, ◌∙◌, length-map, grows_after}
 
 pub threads_first : (s : Setup) → length (start s).threads ≡ length s.threads
 threads_first s = length-map s.threads thread_start

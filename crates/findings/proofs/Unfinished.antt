@@ -1,20 +1,7 @@
 -- Searching only the incomplete requests, for a test that only those can pass.
-use Rattle.std.proofs.Common.{◌≡◌, inl, inr, ℕ, ◌+◌, ◌<◌, ◌≤◌, Bool, false, List, refl, sym, ap, ◌∙◌, arith}
-use Rattle.std.proofs.lemmas.Bool.{and_left, cases_lt}
-use Rattle.std.specs.Prelude.{Option, Some, None, slice_get}
-use Rattle.std.specs.Option.{option_map_or}
-use Rattle.std.specs.List.{list_any}
-use Rattle.entries.specs.declared.row.Phase.{Phase}
-use Rattle.entries.specs.declared.row.Phase.TheVariants.{Queued, Issued, Ended}
-use Rattle.entries.specs.declared.row.Row.{Row}
-use Rattle.links_drains.specs.Numbered.{IsNextWhere, NoneWhere}
-use Rattle.links_drains.specs.Phases.{is_queued, is_issued, is_unfinished}
-use Rattle.links_drains.specs.Units.{is_open}
-use Rattle.links_drains.proofs.Units.{any_false}
-use Rattle.findings.specs.declared.uses.Usage.{Usage}
-use Rattle.findings.specs.declared.uses.Usage.TheVariants.{Names, Holds}
-use Rattle.findings.specs.Uses.{is_user}
-use Rattle.findings.proofs.Looking.{passes, NonePasses}
+use Rattle.findings.proofs.Common.{◌≡◌, ℕ, ◌+◌, ◌<◌, ◌≤◌, Bool, false, List, refl, Option, Some, None, slice_get, option_map_or, list_any, Phase, Issued, Row, IsNextWhere, NoneWhere, is_queued, is_issued, is_unfinished, is_open, Usage, Names, Holds, inl, inr, sym, ap, ◌∙◌, arith, and_left, cases_lt, any_false, is_user}
+use Rattle.entries.specs.declared.row.Phase.TheVariants.{Queued}
+use Rattle.findings.proofs.Looking.{NonePasses, passes}
 
 -- No completed request passes the test.
 abbrev pub PassOpen : (Row → Bool) → Type 0
@@ -45,13 +32,11 @@ none_further test rows from closed none absent = any_false test rows (λ j x e.
 
 not_queued : (p : Phase) → is_unfinished p ≡ false → is_queued p ≡ false
 not_queued Queued e = cc
-not_queued Issued e = refl
-not_queued (Ended res) e = refl
+not_queued p e = refl
 
 not_issued : (p : Phase) → is_unfinished p ≡ false → is_issued p ≡ false
-not_issued Queued e = refl
 not_issued Issued e = cc
-not_issued (Ended res) e = refl
+not_issued p e = refl
 
 -- Only an incomplete request uses a descriptor.
 pub user_open : (usage : Usage) (fd : ℕ) → PassOpen (is_user usage fd)

@@ -1,9 +1,5 @@
 -- The indexes that wait in the submission ring, after some are skipped.
-use Rattle.std.proofs.Common.{◌≡◌, ℕ, ◌+◌, Bool, false, List, drop, ap, ◌∙◌, arith}
-use Rattle.std.proofs.lemmas.Grind.{common_steps}
-use Rattle.std.proofs.lemmas.Option.{gets}
-use Rattle.std.specs.Prelude.{Some, slice_get}
-use Rattle.std.specs.Option.{option_map_or}
+use Rattle.findings.proofs.Common.{◌≡◌, ℕ, ◌+◌, Bool, false, List, drop, Some, slice_get, option_map_or, ap, ◌∙◌, arith, common_steps, gets}
 use Rattle.findings.proofs.Looking.{passes}
 
 -- The element at an index of what is left.

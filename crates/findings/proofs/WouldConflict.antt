@@ -1,28 +1,6 @@
 -- The conflicts found for some numbers are those of the event.
-use Rattle.std.proofs.Common.{◌≡◌, ℕ, Bool, true, false, List, [], ◌∷◌, refl, sym, ap, ◌∙◌, subst}
-use Rattle.std.proofs.lemmas.List.Elements.{All-nil, All-append}
-use Rattle.std.proofs.lemmas.Bool.{and_parts}
-use Rattle.std.specs.Prelude.{Option, Some, None, slice_get}
-use Rattle.std.specs.Option.{option_map_or}
-use Rattle.std.specs.List.{All, flat_map}
-use Rattle.entries.specs.declared.row.Row.{Row}
-use Rattle.scenario.specs.declared.setup.Setup.{Setup}
-use Rattle.machine.specs.declared.whole.Machine.{Machine}
-use Rattle.findings.specs.declared.effect.Effect.{Effect}
-use Rattle.findings.specs.declared.effect.Effect.TheVariants.{Nothing, Stored, Finished}
-use Rattle.finding_kinds.specs.declared.finding.Finding.{Finding}
-use Rattle.finding_kinds.specs.declared.kind.Kind.TheVariants.{Conflict, TimespecInUse}
-use Rattle.finding_kinds.specs.declared.kind.ConflictKind.{ConflictKind}
-use Rattle.finding_kinds.specs.declared.kind.TheConstants.ConflictKind.{ALL as conflict_kinds}
-use Rattle.findings.specs.Conflicts.{is_candidate, is_conflict, conflicts}
-use Rattle.findings.specs.Timespecs.{overwrites, of_timespecs}
-use Rattle.findings.specs.Records.{of_candidate, of_number, of_conflicts, of_effect, Covers}
-use Rattle.findings.proofs.Groups.{the_finding, group_only, group_there, is_conflict_kind}
-use Rattle.findings.proofs.Members.{Has, has_left, has_right, has_flat_map, contains_has}
-use Rattle.findings.proofs.OverwrittenTimes.{timespecs_only, timespecs_there}
-
-false_true : false ≡ true → ⊥
-false_true e = cc
+use Rattle.findings.proofs.Common.{◌≡◌, ℕ, Bool, true, false, List, [], ◌∷◌, refl, Option, Some, None, slice_get, option_map_or, All, flat_map, Row, Setup, Machine, Effect, Nothing, Finding, Conflict, TimespecInUse, ConflictKind, conflict_kinds, sym, ap, ◌∙◌, subst, All-nil, All-append, and_parts, clash, is_candidate, is_conflict, conflicts, overwrites, of_timespecs, of_candidate, of_number, of_conflicts, of_effect, Covers}
+use Rattle.findings.proofs.{Groups.group_only, Groups.group_there, Groups.is_conflict_kind, Groups.the_finding, Members.Has, Members.contains_has, Members.has_flat_map, Members.has_left, Members.has_right, OverwrittenTimes.timespecs_only, OverwrittenTimes.timespecs_there}
 
 -- Whether the effect of an event is a finding about request q.
 abbrev pub is_done : Setup → Machine → Effect → ConflictKind → ℕ → Bool
@@ -47,8 +25,7 @@ module _ (P : Finding → Type 0) (i : ℕ) (s : Setup) (m : Machine) (d : Effec
 
 conflicts_done : (P : Finding → Type 0) (i : ℕ) (s : Setup) (m : Machine) (d : Effect) (numbers : List ℕ) → ((kind : ConflictKind) (q : ℕ) → is_done s m d kind q ≡ true → P (the_finding i (Conflict kind) q)) → All P (of_conflicts i s m d numbers)
 conflicts_done P i s m Nothing numbers h = All-nil P
-conflicts_done P i s m (Stored address n) numbers h = numbers_done P i s m (Stored address n) h numbers
-conflicts_done P i s m (Finished r row) numbers h = numbers_done P i s m (Finished r row) h numbers
+conflicts_done P i s m d numbers h = numbers_done P i s m d h numbers
 
 -- What holds of each conflict and of each overwritten timespec holds of all findings.
 pub effect_done : (P : Finding → Type 0) (i : ℕ) (s : Setup) (m : Machine) (d : Effect) (numbers : List ℕ) → ((kind : ConflictKind) (q : ℕ) → is_done s m d kind q ≡ true → P (the_finding i (Conflict kind) q))
@@ -61,7 +38,7 @@ number_there : (i : ℕ) (s : Setup) (m : Machine) (d : Effect) (numbers : List 
 number_there i s m d numbers kind q covers h = by (slice_get m.table q) refl h
   where
     by : (o : Option Row) → slice_get m.table q ≡ o → option_map_or (conflicts kind s m d q) o false ≡ true → Has (flat_map (of_number i s m d) numbers) (the_finding i (Conflict kind) q)
-    by None e t = absurd (false_true t)
+    by None e t = absurd (clash t)
     by (Some row) e t =
         let parts = and_parts (is_candidate row) (is_conflict kind s m d q row) t in
         let candidate : option_map_or is_candidate (slice_get m.table q) false ≡ true = ap (λ (o : Option Row). option_map_or is_candidate o false) e ∙ parts.0 in
@@ -77,13 +54,12 @@ nothing_done : (s : Setup) (m : Machine) (kind : ConflictKind) (q : ℕ) → is_
 nothing_done s m kind q h = by (slice_get m.table q) h
   where
     by : (o : Option Row) → option_map_or (conflicts kind s m Nothing q) o false ≡ true → ⊥
-    by None t = false_true t
-    by (Some row) t = false_true (and_parts (is_candidate row) false t).1
+    by None t = clash t
+    by (Some row) t = clash (and_parts (is_candidate row) false t).1
 
 conflict_there : (i : ℕ) (s : Setup) (m : Machine) (d : Effect) (numbers : List ℕ) (kind : ConflictKind) (q : ℕ) → Covers m.table numbers → is_done s m d kind q ≡ true → Has (of_conflicts i s m d numbers) (the_finding i (Conflict kind) q)
 conflict_there i s m Nothing numbers kind q covers h = absurd (nothing_done s m kind q h)
-conflict_there i s m (Stored address n) numbers kind q covers h = number_there i s m (Stored address n) numbers kind q covers h
-conflict_there i s m (Finished r row) numbers kind q covers h = number_there i s m (Finished r row) numbers kind q covers h
+conflict_there i s m d numbers kind q covers h = number_there i s m d numbers kind q covers h
 
 pub effect_there : (i : ℕ) (s : Setup) (m : Machine) (d : Effect) (numbers : List ℕ) (kind : ConflictKind) (q : ℕ) → Covers m.table numbers → is_done s m d kind q ≡ true → Has (of_effect i s m d numbers) (the_finding i (Conflict kind) q)
 effect_there i s m d numbers kind q covers h = has_left (of_conflicts i s m d numbers) (of_timespecs i m d) _ (conflict_there i s m d numbers kind q covers h)

@@ -1,22 +1,8 @@
 -- What lasts or is left at the end of a run, and whether that is a fault.
 use Rattle.std.specs.Prelude.{ℕ, ◌==◌, Bool, true, false, ◌&&◌, nat_lt, Option, Some, None, slice_get, List, length}
-use Rattle.std.specs.Option.{option_map_or}
-use Rattle.std.specs.List.{list_any}
-use Rattle.entries.specs.declared.row.Row.{Row}
-use Rattle.links_drains.specs.Units.{is_open}
-use Rattle.scenario.specs.declared.setup.Setup.{Setup}
-use Rattle.machine.specs.declared.whole.Machine.{Machine}
-use Rattle.finding_kinds.specs.declared.kind.Verdict.{Verdict}
-use Rattle.finding_kinds.specs.declared.kind.Verdict.TheVariants.{Fault, Note}
-use Rattle.finding_kinds.specs.declared.kind.LastingKind.{LastingKind}
+use Rattle.findings.specs.Common.{option_map_or, list_any, Row, is_open, Setup, Machine, Verdict, Fault, Note, LastingKind, LeftKind, Unfinished, NotDurable, Condition, Waits, LostWakeUp, NotTaken, NotReaped, Stuck}
+use Rattle.findings.specs.{Conditions.has_unsynced, Conflicts.are_one, Conflicts.file_of, Endings.is_verdict}
 use Rattle.finding_kinds.specs.declared.kind.LastingKind.TheVariants as lasting
-use Rattle.finding_kinds.specs.declared.kind.LeftKind.{LeftKind}
-use Rattle.finding_kinds.specs.declared.kind.LeftKind.TheVariants.{Unfinished, NotDurable}
-use Rattle.findings.specs.declared.conditions.Condition.{Condition}
-use Rattle.findings.specs.declared.conditions.Condition.TheVariants.{Waits, LostWakeUp, NotTaken, NotReaped, Stuck}
-use Rattle.findings.specs.Conditions.{has_unsynced}
-use Rattle.findings.specs.Endings.{is_verdict}
-use Rattle.findings.specs.Conflicts.{file_of, are_one}
 
 -- A fault if the test is true, else a note.
 abbrev pub fault_if : Bool → Verdict

@@ -1,17 +1,7 @@
 -- Findings about completed cancels and removals, by the requests that they match
 -- (io_uring_prep_cancel(3), io_uring_enter(2)).
-use Rattle.std.specs.Prelude.{ℕ, ◌==◌, Bool, false, not, ◌&&◌, nat_lt, if◌then◌else◌, Option, Some, None, slice_get, List, length}
-use Rattle.std.specs.Option.{option_map_or, option_and_then}
-use Rattle.entries.specs.declared.row.Row.{Row}
-use Rattle.scenario.specs.declared.event.Event.{Event}
-use Rattle.scenario.specs.declared.event.Event.TheVariants.{Finish}
-use Rattle.opcodes.specs.Opcodes.{is_cancel}
-use Rattle.timeouts_cancel.specs.Matches.{matches_of}
-use Rattle.machine.specs.Cancels.{key_of, takes_all}
-use Rattle.machine.specs.declared.whole.Machine.{Machine}
-use Rattle.findings.specs.declared.canceling.Cancel.{Cancel}
-use Rattle.finding_kinds.specs.declared.kind.CancelKind.{CancelKind}
-use Rattle.finding_kinds.specs.declared.kind.CancelKind.TheVariants.{NoneFound, Several, LeftRunning}
+use Rattle.std.specs.Prelude.{ℕ, ◌==◌, Bool, false, not, ◌&&◌, nat_lt, if◌then◌else◌, Option, Some, None, slice_get, List, length, option_and_then}
+use Rattle.findings.specs.Common.{option_map_or, Row, Event, Finish, is_cancel, matches_of, key_of, takes_all, Machine, CancelKind, NoneFound, Several, LeftRunning, Cancel}
 
 -- The request with its number of matches, if it is a cancel or removal.
 abbrev pub cancel_in : List Row → ℕ → Row → Option Cancel

@@ -1,22 +1,7 @@
 -- What a finding about a completed request depends on besides the request.
 use Rattle.std.specs.Prelude.{ℕ, ◌+◌, ◌==◌, Bool, false, not, ◌&&◌, ◌||◌, nat_lt, Option, is_none, slice_get, List}
-use Rattle.std.specs.Option.{option_map_or}
-use Rattle.entries.specs.declared.choice.Choice.TheVariants.{Full}
-use Rattle.entries.specs.declared.entry.Sqe.{Sqe}
-use Rattle.entries.specs.declared.row.Row.{Row}
-use Rattle.places.specs.declared.place.Place.TheVariants.{FileLength}
-use Rattle.scenario.specs.declared.event.Event.{Event}
-use Rattle.scenario.specs.declared.event.Event.TheVariants.{Finish, Expire}
-use Rattle.scenario.specs.declared.setup.Setup.{Setup}
-use Rattle.links_drains.specs.Holding.{is_number}
-use Rattle.links_drains.specs.Links.{is_guard}
-use Rattle.links_drains.specs.Numbered.{any_numbered}
-use Rattle.machine.specs.Steps.{refusal}
-use Rattle.machine.specs.Whole.{view}
-use Rattle.machine.specs.declared.whole.Machine.{Machine}
-use Rattle.findings.specs.declared.completed.Member.{Member}
-use Rattle.findings.specs.Endings.{Circumstances, ending_of, is_error, result_in, severs}
-use Rattle.findings.specs.Conflicts.{begins, file_of, moved, number_or_zero}
+use Rattle.findings.specs.Common.{option_map_or, Full, Sqe, Row, FileLength, Event, Finish, Expire, Setup, is_number, is_guard, any_numbered, refusal, view, Machine, Member}
+use Rattle.findings.specs.{Conflicts.begins, Conflicts.file_of, Conflicts.moved, Conflicts.number_or_zero, Endings.Circumstances, Endings.ending_of, Endings.is_error, Endings.result_in, Endings.severs}
 
 -- ---- short transfers (read(2), write(2))
 

@@ -1,33 +1,8 @@
 -- Findings about the rings and the threads: events, and conditions that last to the end of a run.
-use Rattle.std.specs.Prelude.{◌≡◌, ℕ, ℤ, pos, ◌+◌, ◌≤◌, ◌==◌, Bool, true, false, not, ◌&&◌, ◌||◌, nat_lt, if◌then◌else◌, Option, Some, None, is_none, is_some, option_map, slice_get, length}
-use Rattle.std.specs.Option.{option_map_or, option_and_then}
-use Rattle.std.specs.Ordering.{int_eq}
-use Rattle.std.specs.Str.{bytes_eq}
-use Rattle.model_files.specs.Files.{FileState, content, durable_content}
-use Rattle.model_files.specs.Worlds.{WorldState, file_of}
-use Rattle.ring_words.specs.Rings.{waiting}
-use Rattle.places.specs.declared.place.Place.TheVariants.{OpenMark}
-use Rattle.places.specs.declared.value.Stage.{Stage}
-use Rattle.places.specs.declared.value.Stage.TheVariants.{Ready, Waiting}
-use Rattle.scenario.specs.declared.event.Event.{Event}
-use Rattle.scenario.specs.declared.event.Event.TheVariants.{Step}
-use Rattle.scenario.specs.declared.event.Refusal.{Refusal}
-use Rattle.scenario.specs.declared.event.Refusal.TheVariants.{SqFull, NothingToReap}
-use Rattle.scenario.specs.declared.setup.Instruction.{Instruction}
-use Rattle.scenario.specs.declared.setup.Instruction.TheVariants.{Put, Push, Enter, Reap, Close}
-use Rattle.scenario.specs.declared.setup.Setup.{Setup}
-use Rattle.links_drains.specs.Links.{has_flag}
-use Rattle.machine.specs.declared.whole.Machine.{Machine}
-use Rattle.machine.specs.Steps.{number_in, ready_count}
-use Rattle.machine.specs.Threads.{ThreadState}
-use Rattle.machine.specs.Whole.{view}
-use Rattle.finding_kinds.specs.declared.kind.StepKind.{StepKind}
-use Rattle.finding_kinds.specs.declared.kind.StepKind.TheVariants.{Busy, TakenShort, NoSuchSlot, SlotInUse, ClosedEarly, ClosedWhileHeld, RefusedFlags, ClosedTwice}
-use Rattle.findings.specs.declared.conditions.Condition.{Condition}
-use Rattle.findings.specs.declared.conditions.Condition.TheVariants.{Waits, LostWakeUp, NotTaken, NotReaped, Stuck}
-use Rattle.findings.specs.Endings.{is_error, is_less}
-use Rattle.findings.specs.Uses.{is_pushed_last, is_named, is_held}
-use Rattle.finding_kinds.specs.Programs.{instruction_at}
+use Rattle.std.specs.Prelude.{◌≡◌, ℕ, ℤ, pos, ◌+◌, ◌≤◌, ◌==◌, Bool, true, false, not, ◌&&◌, ◌||◌, nat_lt, if◌then◌else◌, Option, Some, None, is_none, is_some, option_map, slice_get, length, option_and_then, bytes_eq}
+use Rattle.findings.specs.Common.{option_map_or, int_eq, FileState, content, durable_content, WorldState, waiting, OpenMark, Stage, Ready, Waiting, Event, Step, Refusal, SqFull, NothingToReap, Instruction, Put, Push, Enter, Reap, Close, Setup, has_flag, Machine, number_in, ready_count, ThreadState, view, StepKind, Busy, TakenShort, NoSuchSlot, SlotInUse, ClosedEarly, ClosedWhileHeld, RefusedFlags, ClosedTwice, Condition, Waits, LostWakeUp, NotTaken, NotReaped, Stuck, instruction_at}
+use Rattle.model_files.specs.Worlds.{file_of}
+use Rattle.findings.specs.{Endings.is_error, Endings.is_less, Uses.is_held, Uses.is_named, Uses.is_pushed_last}
 
 -- ---- rings (io_uring_setup(2), io_uring(7))
 

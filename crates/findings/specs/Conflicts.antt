@@ -1,37 +1,7 @@
 -- Conflicts between an event and incomplete READs and WRITEs: over their memory, or over a file
 -- without an order.
-use Rattle.std.specs.Prelude.{ℕ, ℤ, pos, ◌+◌, ◌-◌, ◌==◌, Bool, true, false, not, ◌&&◌, ◌||◌, nat_lt, min, max, if◌then◌else◌, Option, Some, None, slice_get, List, length}
-use Rattle.std.specs.Option.{option_map_or, option_and_then}
-use Rattle.std.specs.List.{list_any}
-use Rattle.entries.specs.declared.entry.Sqe.{Sqe}
-use Rattle.entries.specs.declared.row.Phase.{Phase}
-use Rattle.entries.specs.declared.row.Phase.TheVariants.{Ended}
-use Rattle.entries.specs.declared.row.Row.{Row}
-use Rattle.places.specs.declared.object.Contents.{Contents}
-use Rattle.places.specs.declared.object.Contents.TheVariants.{File}
-use Rattle.places.specs.declared.object.Descriptor.{Descriptor}
-use Rattle.places.specs.declared.object.Object.{Object}
-use Rattle.places.specs.declared.place.Place.TheVariants.{Position}
-use Rattle.places.specs.declared.value.Value.{Value}
-use Rattle.places.specs.declared.value.Value.TheVariants.{Number}
-use Rattle.scenario.specs.declared.event.Event.{Event}
-use Rattle.scenario.specs.declared.event.Event.TheVariants.{Finish}
-use Rattle.scenario.specs.declared.setup.Instruction.{Instruction}
-use Rattle.scenario.specs.declared.setup.Instruction.TheVariants.{Store}
-use Rattle.scenario.specs.declared.setup.Setup.{Setup}
-use Rattle.opcodes.specs.Outcomes.{is_at_position}
-use Rattle.links_drains.specs.Phases.{is_issued}
-use Rattle.links_drains.specs.Eligible.{drains, is_before_in_unit, is_before_in_drain}
-use Rattle.links_drains.specs.Units.{is_open}
-use Rattle.timeouts_cancel.specs.Cascades.{is_transfer}
-use Rattle.machine.specs.Steps.{number_in}
-use Rattle.machine.specs.Whole.{view}
-use Rattle.machine.specs.declared.whole.Machine.{Machine}
-use Rattle.findings.specs.declared.effect.Effect.{Effect}
-use Rattle.findings.specs.declared.effect.Effect.TheVariants.{Nothing, Stored, Finished}
-use Rattle.finding_kinds.specs.declared.kind.ConflictKind.{ConflictKind}
-use Rattle.finding_kinds.specs.declared.kind.ConflictKind.TheVariants.{BufferInUse, Unordered, SharedPosition, FsyncEarly}
-use Rattle.finding_kinds.specs.declared.kind.Verdict.TheVariants.{Fault, Note}
+use Rattle.std.specs.Prelude.{ℕ, ℤ, pos, ◌+◌, ◌-◌, ◌==◌, Bool, true, false, not, ◌&&◌, ◌||◌, nat_lt, min, max, if◌then◌else◌, Option, Some, None, slice_get, List, length, option_and_then}
+use Rattle.findings.specs.Common.{option_map_or, list_any, Sqe, Phase, Row, Contents, File, Descriptor, Object, Position, Value, Number, Event, Finish, Instruction, Store, Setup, is_at_position, is_issued, drains, is_before_in_unit, is_before_in_drain, is_open, is_transfer, number_in, view, Machine, Effect, Nothing, Stored, Finished, ConflictKind, BufferInUse, Unordered, SharedPosition, FsyncEarly, Fault, Note, Ended}
 use Rattle.findings.specs.Conditions.{done_by}
 
 -- ---- the effect of an event

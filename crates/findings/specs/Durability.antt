@@ -1,25 +1,7 @@
 -- Which bytes of files are not durable, and what WRITEs and FSYNCs did to them (write(2), fsync(2)).
-use Rattle.std.specs.Prelude.{◌≡◌, ℕ, ℤ, pos, negsuc, ◌+◌, ◌<◌, ◌==◌, Bool, true, false, ◌&&◌, ◌||◌, nat_lt, nat_le, if◌then◌else◌, Option, Some, None, option_map, slice_get, List}
-use Rattle.std.specs.Option.{option_map_or, option_to_list}
-use Rattle.std.specs.Ordering.{int_eq}
-use Rattle.std.specs.List.{list_any, flat_map}
-use Rattle.entries.specs.declared.row.Phase.{Phase}
-use Rattle.entries.specs.declared.row.Phase.TheVariants.{Ended}
-use Rattle.entries.specs.declared.row.Row.{Row}
-use Rattle.model_files.specs.Files.{FileState}
-use Rattle.model_files.specs.Worlds.{file_of as file_in_world}
-use Rattle.scenario.specs.declared.event.Event.{Event}
-use Rattle.scenario.specs.declared.event.Event.TheVariants.{Finish}
-use Rattle.scenario.specs.declared.setup.Setup.{Setup}
-use Rattle.machine.specs.declared.whole.Machine.{Machine}
-use Rattle.machine.specs.Runs.{moment as machine_at}
-use Rattle.finding_kinds.specs.Values.{differ}
-use Rattle.findings.specs.declared.writes.Fsync.{Fsync}
-use Rattle.findings.specs.declared.writes.Written.{Written}
-use Rattle.findings.specs.declared.effect.Effect.{Effect}
-use Rattle.findings.specs.declared.effect.Effect.TheVariants.{Nothing, Finished}
-use Rattle.findings.specs.Conflicts.{file_of, begins, moved, finished_in}
-use Rattle.findings.specs.Watched.{numbers_below}
+use Rattle.std.specs.Prelude.{◌≡◌, ℕ, ℤ, pos, negsuc, ◌+◌, ◌<◌, ◌==◌, Bool, true, false, ◌&&◌, ◌||◌, nat_lt, nat_le, if◌then◌else◌, Option, Some, None, option_map, slice_get, List, option_to_list, flat_map}
+use Rattle.findings.specs.Common.{option_map_or, int_eq, list_any, Phase, Row, FileState, file_in_world, Event, Finish, Setup, Machine, machine_at, differ, Fsync, Written, Effect, Nothing, Finished, Ended}
+use Rattle.findings.specs.{Conflicts.begins, Conflicts.file_of, Conflicts.finished_in, Conflicts.moved, Watched.numbers_below}
 
 -- ---- bytes
 

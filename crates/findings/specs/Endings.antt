@@ -1,23 +1,7 @@
 -- Findings about requests that an event submits or completes.
 use Rattle.std.specs.Prelude.{ℕ, ℤ, pos, negsuc, ◌+◌, ◌==◌, Bool, false, not, ◌&&◌, ◌||◌, nat_lt, nat_le, unsigned_abs, if◌then◌else◌, Option, Some, None, is_some, is_none, slice_get, List}
-use Rattle.std.specs.Option.{option_map_or}
-use Rattle.entries.specs.declared.entry.Sqe.{Sqe}
-use Rattle.entries.specs.declared.row.Phase.{Phase}
-use Rattle.entries.specs.declared.row.Phase.TheVariants.{Queued, Issued, Ended}
-use Rattle.entries.specs.declared.row.Row.{Row}
-use Rattle.opcodes.specs.Opcodes.{is_cancel, is_timer}
-use Rattle.links_drains.specs.Links.{has_flag, is_guard, is_linked, is_soft_linked}
-use Rattle.links_drains.specs.Numbered.{any_numbered}
-use Rattle.links_drains.specs.Phases.{is_ended, is_issued}
-use Rattle.links_drains.specs.Units.{is_open}
-use Rattle.timeouts_cancel.specs.Cascades.{is_bad, is_negative, is_transfer}
-use Rattle.finding_kinds.specs.Chains.{distance_to_next}
-use Rattle.finding_kinds.specs.declared.kind.Verdict.{Verdict}
-use Rattle.finding_kinds.specs.declared.kind.Verdict.TheVariants.{Fault, Note}
-use Rattle.finding_kinds.specs.declared.kind.EndedKind.{EndedKind}
-use Rattle.finding_kinds.specs.declared.kind.EndedKind.TheVariants.{Failed, Short, Severed, Canceled, TimedOut, Expired, NotFound, TooLate, WentOn}
-use Rattle.finding_kinds.specs.declared.kind.QueuedKind.{QueuedKind}
-use Rattle.finding_kinds.specs.declared.kind.QueuedKind.TheVariants.{CutOff, NoEffect, SameUserData}
+use Rattle.findings.specs.Common.{option_map_or, Sqe, Phase, Issued, Row, is_cancel, is_timer, has_flag, is_guard, is_linked, is_soft_linked, any_numbered, is_ended, is_issued, is_open, is_bad, is_negative, is_transfer, distance_to_next, Verdict, Fault, Note, EndedKind, Failed, Short, Severed, Canceled, TimedOut, Expired, NotFound, TooLate, WentOn, QueuedKind, CutOff, NoEffect, SameUserData, Ended}
+use Rattle.entries.specs.declared.row.Phase.TheVariants.{Queued}
 
 -- ---- completions
 

@@ -1,36 +1,8 @@
 -- The findings of a run, by the machines before and after each event.
-use Rattle.std.specs.Prelude.{◌≡◌, ℕ, ◌==◌, Bool, true, false, not, ◌&&◌, ◌⊎◌, Some, length, List, slice_get}
-use Rattle.std.specs.Option.{option_map_or}
-use Rattle.std.specs.List.{All, Contains}
-use Rattle.std.specs.List.Sorted.{IsStrictlySortedBy}
-use Rattle.scenario.specs.declared.event.Event.{Event}
-use Rattle.scenario.specs.declared.setup.Setup.{Setup}
-use Rattle.machine.specs.declared.whole.Machine.{Machine}
-use Rattle.machine.specs.Steps.{after}
-use Rattle.machine.specs.Runs.{moment as machine_at}
-use Rattle.quiescence.specs.Over.{SaysOver}
-use Rattle.finding_kinds.specs.declared.kind.Kind.{Kind}
-use Rattle.finding_kinds.specs.declared.kind.Kind.TheVariants.{Ended, Overflow, Lasting, Left, Conflict, Step, Queued, Cancel, TimespecInUse, FsyncRetried}
-use Rattle.finding_kinds.specs.declared.kind.ConflictKind.TheVariants.{FsyncEarly}
-use Rattle.finding_kinds.specs.declared.kind.EndedKind.{EndedKind}
-use Rattle.finding_kinds.specs.declared.kind.LastingKind.{LastingKind}
-use Rattle.finding_kinds.specs.declared.kind.LeftKind.{LeftKind}
-use Rattle.finding_kinds.specs.declared.kind.QueuedKind.{QueuedKind}
-use Rattle.finding_kinds.specs.declared.kind.StepKind.{StepKind}
-use Rattle.finding_kinds.specs.declared.kind.Verdict.{Verdict}
-use Rattle.finding_kinds.specs.declared.kind.Verdict.TheVariants.{Fault, Note}
-use Rattle.finding_kinds.specs.declared.finding.Finding.{Finding}
-use Rattle.finding_kinds.specs.Orders.{order_of}
-use Rattle.findings.specs.declared.conditions.Condition.{Condition}
-use Rattle.findings.specs.AtEnd.{reported_as, is_left}
-use Rattle.findings.specs.Endings.{ended_test, queued_test}
-use Rattle.findings.specs.Conditions.{overflows, done_by, is_of_step, is_step_of, condition_holds, Began}
-use Rattle.findings.specs.Conflicts.{clashes, done_at}
-use Rattle.findings.specs.Completions.{circumstances}
-use Rattle.findings.specs.Timespecs.{overwrites}
-use Rattle.findings.specs.Canceling.{cancel_shows}
-use Rattle.findings.specs.Durability.{is_volatile_at, written_before, has_byte_of, IsRetried}
-use Rattle.findings.specs.Uses.{changes_slot}
+use Rattle.std.specs.Prelude.{◌≡◌, ℕ, ◌==◌, Bool, true, false, not, ◌&&◌, ◌⊎◌, Some, length, List, slice_get, All, Contains}
+use Rattle.findings.specs.Common.{option_map_or, IsStrictlySortedBy, Event, Setup, Machine, after, machine_at, SaysOver, Kind, Overflow, Lasting, Left, Conflict, Queued, TimespecInUse, FsyncRetried, FsyncEarly, EndedKind, LastingKind, LeftKind, QueuedKind, StepKind, Finding, order_of, Condition}
+use Rattle.finding_kinds.specs.declared.kind.Kind.TheVariants.{Cancel, Ended, Step}
+use Rattle.findings.specs.{AtEnd.fault_if, AtEnd.is_left, AtEnd.reported_as, Canceling.cancel_shows, Completions.circumstances, Conditions.Began, Conditions.condition_holds, Conditions.done_by, Conditions.is_of_step, Conditions.is_step_of, Conditions.overflows, Conflicts.clashes, Conflicts.done_at, Durability.IsRetried, Durability.has_byte_of, Durability.is_volatile_at, Durability.written_before, Endings.ended_test, Endings.queued_test, Timespecs.overwrites, Uses.changes_slot}
 
 -- ---- order
 
@@ -124,15 +96,10 @@ IsLeft s es f = IsLeftAt s es f.moment f.kind f.subject
 abbrev pub is_lost : Setup → List Event → ℕ → Bool
 is_lost s es q = has_byte_of (is_volatile_at (machine_at s es (length es))) (written_before s es (length es)) q
 
--- A fault if the test is true, else a note.
-abbrev pub verdict_of : Bool → Verdict
-verdict_of true = Fault
-verdict_of false = Note
-
 -- The kind of a finding about request q, once it is known which WRITEs are lost: an FSYNC that
 -- completed too early is a fault if the WRITE is lost, else a note.
 abbrev pub judged_kind : (ℕ → Bool) → Kind → ℕ → Kind
-judged_kind lost (Conflict (FsyncEarly verdict)) q = Conflict (FsyncEarly (verdict_of (lost q)))
+judged_kind lost (Conflict (FsyncEarly verdict)) q = Conflict (FsyncEarly (fault_if (lost q)))
 judged_kind lost kind q = kind
 
 -- An event is a finding of some kind, and this is its kind by the end of the run.

@@ -1,6 +1,6 @@
 -- A finding under a condition.
 use Rattle.std.specs.Prelude.{Bool, if◌then◌else◌, List, [], ◌∷◌}
-use Rattle.finding_kinds.specs.declared.finding.Finding.{Finding}
+use Rattle.findings.specs.Common.{Finding}
 
 -- The finding if the test is true, else none.
 abbrev pub given : Bool → Finding → List Finding

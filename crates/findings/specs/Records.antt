@@ -1,54 +1,9 @@
 -- The findings of an event as the search computes them, from the undo record of the event.
-use Rattle.std.specs.Prelude.{◌≡◌, ℕ, ℤ, pos, negsuc, nat_le, ◌<◌, ◌==◌, Bool, true, false, not, ◌&&◌, ◌||◌, ◌++◌, if◌then◌else◌, Option, Some, None, List, [], ◌∷◌, length, slice_get}
-use Rattle.std.specs.Option.{option_map_or}
-use Rattle.std.specs.List.{All, filter, flat_map, list_any, enumerate_from, Contains}
-use Rattle.links_drains.specs.Units.{is_open}
-use Rattle.timeouts_cancel.specs.Cascades.{is_bad, is_negative, is_transfer}
-use Rattle.entries.specs.declared.row.Row.{Row}
-use Rattle.places.specs.declared.place.Place.{Place}
-use Rattle.places.specs.declared.place.Place.TheVariants.{Request}
-use Rattle.places.specs.declared.value.Change.{Change}
-use Rattle.places.specs.declared.value.Value.{Value}
-use Rattle.places.specs.declared.value.Value.TheVariants.{Requested}
-use Rattle.places.specs.View.{View, Exact, NamesOnce}
-use Rattle.scenario.specs.declared.event.Event.{Event}
-use Rattle.scenario.specs.declared.event.Event.TheVariants.{Step}
-use Rattle.scenario.specs.declared.setup.Instruction.{Instruction}
-use Rattle.scenario.specs.declared.setup.Instruction.TheVariants.{Put, Push, Store, Enter, Reap, Close}
-use Rattle.scenario.specs.declared.setup.Setup.{Setup}
-use Rattle.machine.specs.declared.whole.Machine.{Machine}
-use Rattle.machine.specs.Whole.{view}
-use Rattle.finding_kinds.specs.declared.kind.Kind.{Kind}
+use Rattle.std.specs.Prelude.{◌≡◌, ℕ, ℤ, pos, negsuc, nat_le, ◌<◌, ◌==◌, Bool, true, false, not, ◌&&◌, ◌||◌, ◌++◌, if◌then◌else◌, Option, Some, None, List, [], ◌∷◌, length, slice_get, All, filter, flat_map, Contains}
+use Rattle.findings.specs.Common.{option_map_or, list_any, enumerate_from, is_open, is_bad, is_negative, is_transfer, Row, Place, Request, Change, Value, Requested, View, Exact, NamesOnce, Event, Step, Instruction, Put, Push, Store, Enter, Reap, Close, Setup, Machine, view, Kind, EndedKind, Unfinished, NotDurable, ConflictKind, StepKind, QueuedKind, CancelKind, ended_kinds, conflict_kinds, step_kinds, queued_kinds, cancel_kinds, Completed, Member, Before, Effect, Nothing, Finding, Cancel}
+use Rattle.findings.specs.{AtEnd.fault_if, AtEnd.has_fsync, Canceling.cancel_before, Canceling.is_of_cancel, Completions.cancels, Completions.circumstances, Completions.expires_over, Completions.has_canceled_target, Completions.is_expiry_of, Completions.is_later, Completions.is_severing, Completions.is_short_of_end, Completions.member_of, Conditions.answer_of, Conditions.done_by, Conditions.has_unsynced, Conditions.is_of_step, Conditions.overflows, Conflicts.conflicts, Conflicts.done_at, Conflicts.is_candidate, Endings.Circumstances, Endings.ended_test, Endings.ending_of, Endings.is_error, Endings.is_less, Endings.next_in, Endings.queued_test, Endings.severs, Findings.IsFinding, Findings.IsLeft, Findings.Lasts, Findings.Retries, Findings.judged_kind, Findings.occurs_at, Timespecs.of_timespecs, Uses.changes_at, Watched.numbers_below}
 use Rattle.finding_kinds.specs.declared.kind.Kind.TheVariants as group
-use Rattle.finding_kinds.specs.declared.kind.EndedKind.{EndedKind}
-use Rattle.finding_kinds.specs.declared.kind.LeftKind.TheVariants.{Unfinished, NotDurable}
-use Rattle.finding_kinds.specs.declared.kind.ConflictKind.{ConflictKind}
-use Rattle.finding_kinds.specs.declared.kind.StepKind.{StepKind}
-use Rattle.finding_kinds.specs.declared.kind.QueuedKind.{QueuedKind}
-use Rattle.finding_kinds.specs.declared.kind.CancelKind.{CancelKind}
-use Rattle.finding_kinds.specs.declared.kind.TheConstants.EndedKind.{ALL as ended_kinds}
-use Rattle.finding_kinds.specs.declared.kind.TheConstants.ConflictKind.{ALL as conflict_kinds}
-use Rattle.finding_kinds.specs.declared.kind.TheConstants.StepKind.{ALL as step_kinds}
-use Rattle.finding_kinds.specs.declared.kind.TheConstants.QueuedKind.{ALL as queued_kinds}
-use Rattle.finding_kinds.specs.declared.kind.TheConstants.CancelKind.{ALL as cancel_kinds}
-use Rattle.findings.specs.declared.canceling.Cancel.{Cancel}
-use Rattle.findings.specs.declared.completed.Completed.{Completed}
-use Rattle.findings.specs.declared.completed.Member.{Member}
-use Rattle.findings.specs.declared.conditions.Before.{Before}
-use Rattle.findings.specs.declared.effect.Effect.{Effect}
-use Rattle.findings.specs.declared.effect.Effect.TheVariants.{Nothing}
-use Rattle.finding_kinds.specs.declared.finding.Finding.{Finding}
-use Rattle.findings.specs.AtEnd.{fault_if, has_fsync}
-use Rattle.findings.specs.Endings.{Circumstances, ending_of, is_error, is_less, severs, next_in, ended_test, queued_test}
-use Rattle.findings.specs.Completions.{is_short_of_end, is_severing, cancels, is_later, member_of, is_expiry_of, expires_over, has_canceled_target, circumstances}
-use Rattle.findings.specs.Canceling.{cancel_before, is_of_cancel}
-use Rattle.findings.specs.Conditions.{answer_of, overflows, done_by, is_of_step, has_unsynced}
-use Rattle.findings.specs.Conflicts.{done_at, is_candidate, conflicts}
-use Rattle.findings.specs.Uses.{changes_at}
-use Rattle.findings.specs.Findings.{occurs_at, Lasts, IsLeft, Retries, IsFinding, judged_kind}
 pub use Rattle.findings.specs.Given.{given}
-use Rattle.findings.specs.Timespecs.{of_timespecs}
-use Rattle.findings.specs.Watched.{numbers_below}
 
 -- ---- one record
 

@@ -1,23 +1,8 @@
 -- What a search for findings has seen of a run.
 use Rattle.std.specs.Prelude.{◌≡◌, ℕ, zero, suc, ◌≤◌, Bool, Option, Some, None, option_map, List, length, map, slice_get}
-use Rattle.scenario.specs.declared.event.Event.{Event}
-use Rattle.scenario.specs.declared.setup.Setup.{Setup}
-use Rattle.machine.specs.declared.whole.Machine.{Machine}
-use Rattle.machine.specs.Runs.{moment as machine_at, IsRefused}
+use Rattle.findings.specs.Common.{Event, Setup, Machine, machine_at, IsRefused, Refused, Stopped, Finding, Before, Written, Watch, Memory}
 use Rattle.runs.specs.declared.driving.Ended.{Ended}
-use Rattle.runs.specs.declared.driving.Ended.TheVariants.{Refused, Memory, Stopped}
-use Rattle.finding_kinds.specs.declared.finding.Finding.{Finding}
-use Rattle.findings.specs.declared.conditions.Before.{Before}
-use Rattle.findings.specs.declared.writes.Written.{Written}
-use Rattle.findings.specs.declared.watching.Watch.{Watch}
-use Rattle.findings.specs.Canceling.{cancel_before}
-use Rattle.findings.specs.Completions.{expires_over_ready}
-use Rattle.findings.specs.Conditions.{overflows, counter_of, done_by}
-use Rattle.findings.specs.Findings.{condition_holds_at}
-use Rattle.findings.specs.Records.{Covers, FoundBefore}
-use Rattle.findings.specs.Suspects.{FollowsFiles}
-use Rattle.findings.specs.Uses.{changes_at}
-use Rattle.findings.specs.Watched.{next_of, continued, watched}
+use Rattle.findings.specs.{Canceling.cancel_before, Completions.expires_over_ready, Conditions.counter_of, Conditions.done_by, Conditions.overflows, Findings.condition_holds_at, Records.Covers, Records.FoundBefore, Suspects.FollowsFiles, Uses.changes_at, Watched.continued, Watched.next_of, Watched.watched}
 
 -- The facts about the machine before an event that the event may change.
 abbrev pub facts_before : Setup → Machine → Event → Before

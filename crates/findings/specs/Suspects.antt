@@ -1,21 +1,7 @@
 -- What a search computes about WRITEs and FSYNCs.
-use Rattle.std.specs.Prelude.{◌≡◌, ℕ, ◌<◌, ◌==◌, Bool, true, false, not, ◌&&◌, ◌||◌, ◌++◌, ◌⊎◌, Option, Some, None, slice_get, List, length, map}
-use Rattle.std.specs.Bool.{MatchBool}
-use Rattle.std.specs.Option.{option_map_or, option_to_list}
-use Rattle.std.specs.List.{list_any}
-use Rattle.bit_sets.specs.Sets.{has}
-use Rattle.scenario.specs.declared.event.Event.{Event}
-use Rattle.scenario.specs.declared.setup.Setup.{Setup}
-use Rattle.machine.specs.declared.whole.Machine.{Machine}
-use Rattle.finding_kinds.specs.declared.finding.Finding.{Finding}
-use Rattle.finding_kinds.specs.declared.kind.Kind.{Kind}
-use Rattle.finding_kinds.specs.declared.kind.Kind.TheVariants.{Conflict, FsyncRetried}
-use Rattle.finding_kinds.specs.declared.kind.ConflictKind.TheVariants.{FsyncEarly}
-use Rattle.findings.specs.declared.writes.Fsync.{Fsync}
-use Rattle.findings.specs.declared.writes.Written.{Written}
-use Rattle.findings.specs.declared.effect.Effect.{Effect}
-use Rattle.findings.specs.Durability.{is_volatile_at, moves, written_of, written_before, has_byte_of, fsync_of, failed, good, IsSuspect}
-use Rattle.findings.specs.Records.{given, judged, RetriedBefore}
+use Rattle.std.specs.Prelude.{◌≡◌, ℕ, ◌<◌, ◌==◌, Bool, true, false, not, ◌&&◌, ◌||◌, ◌++◌, ◌⊎◌, Option, Some, None, slice_get, List, length, map, MatchBool, option_to_list}
+use Rattle.findings.specs.Common.{option_map_or, list_any, has, Event, Setup, Machine, Finding, Kind, Conflict, FsyncRetried, FsyncEarly, Fsync, Written, Effect}
+use Rattle.findings.specs.{Durability.IsSuspect, Durability.failed, Durability.fsync_of, Durability.good, Durability.has_byte_of, Durability.is_volatile_at, Durability.moves, Durability.written_before, Durability.written_of, Given.given, Records.RetriedBefore, Records.judged}
 
 -- Whether the set of object o, one of a list of sets of bytes, has byte k.
 abbrev pub is_marked : List (List ℕ) → ℕ → ℕ → Bool

@@ -1,19 +1,8 @@
 -- Timespecs that are overwritten before the kernel reads them. It reads the one of a TIMEOUT or a
 -- LINK_TIMEOUT when it takes the entry (io_uring_enter(2)).
-use Rattle.std.specs.Prelude.{ℕ, ◌==◌, Bool, false, ◌&&◌, if◌then◌else◌, slice_get, List, []}
-use Rattle.std.specs.Option.{option_map_or}
-use Rattle.std.specs.List.{flat_map}
-use Rattle.entries.specs.declared.entry.Sqe.{Sqe}
-use Rattle.entries.specs.declared.row.Row.{Row}
-use Rattle.opcodes.specs.Opcodes.{is_timer}
-use Rattle.machine.specs.declared.whole.Machine.{Machine}
-use Rattle.finding_kinds.specs.declared.finding.Finding.{Finding}
-use Rattle.finding_kinds.specs.declared.kind.Kind.TheVariants.{TimespecInUse}
-use Rattle.findings.specs.declared.effect.Effect.{Effect}
-use Rattle.findings.specs.declared.effect.Effect.TheVariants.{Nothing, Stored, Finished}
-use Rattle.findings.specs.Conflicts.{meet, moved}
-use Rattle.findings.specs.Given.{given}
-use Rattle.findings.specs.Uses.{is_pushed_last, pushed_last}
+use Rattle.std.specs.Prelude.{ℕ, ◌==◌, Bool, false, ◌&&◌, if◌then◌else◌, slice_get, List, [], flat_map}
+use Rattle.findings.specs.Common.{option_map_or, Sqe, Row, is_timer, Machine, Finding, TimespecInUse, Effect, Nothing, Stored, Finished}
+use Rattle.findings.specs.{Conflicts.meet, Conflicts.moved, Given.given, Uses.is_pushed_last, Uses.pushed_last}
 
 -- The bytes of memory that a completed request wrote, by the first address and their number: those
 -- that a READ moved (read(2)).

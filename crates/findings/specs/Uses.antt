@@ -1,25 +1,6 @@
 -- Findings about puts and closes while an entry or request still uses the slot or descriptor.
 use Rattle.std.specs.Prelude.{ℕ, ◌==◌, Bool, false, not, ◌&&◌, ◌||◌, Option, Some, slice_get, List, length, drop, ◌-◌}
-use Rattle.std.specs.Option.{option_map_or}
-use Rattle.std.specs.List.{list_any}
-use Rattle.entries.specs.declared.entry.Sqe.{Sqe}
-use Rattle.entries.specs.declared.row.Row.{Row}
-use Rattle.places.specs.declared.place.Place.TheVariants.{Slot}
-use Rattle.places.specs.declared.value.Value.TheVariants.{Entry}
-use Rattle.places.specs.Sameness.{is_same}
-use Rattle.ring_words.specs.Rings.{SubWords, sub_list}
-use Rattle.scenario.specs.declared.setup.Instruction.{Instruction}
-use Rattle.scenario.specs.declared.setup.Instruction.TheVariants.{Put}
-use Rattle.opcodes.specs.Opcodes.{uses_descriptor}
-use Rattle.links_drains.specs.Holding.{is_number}
-use Rattle.links_drains.specs.Phases.{is_queued, is_issued}
-use Rattle.machine.specs.Steps.{number_in}
-use Rattle.machine.specs.Whole.{view}
-use Rattle.machine.specs.declared.whole.Machine.{Machine}
-use Rattle.findings.specs.declared.uses.Sought.{Sought}
-use Rattle.findings.specs.declared.uses.Sought.TheVariants.{Named, Naming}
-use Rattle.findings.specs.declared.uses.Usage.{Usage}
-use Rattle.findings.specs.declared.uses.Usage.TheVariants.{Names, Holds}
+use Rattle.findings.specs.Common.{option_map_or, list_any, Sqe, Row, Slot, Entry, is_same, SubWords, sub_list, Instruction, Put, uses_descriptor, is_number, is_queued, is_issued, number_in, view, Machine, Sought, Named, Naming, Usage, Names, Holds}
 
 -- ---- slots
 

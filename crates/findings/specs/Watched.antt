@@ -1,26 +1,8 @@
 -- Conditions that are findings if they last to the end, with the moment since when each holds.
-use Rattle.std.specs.Prelude.{◌≡◌, ℕ, zero, suc, ◌==◌, Bool, true, false, nat_lt, if◌then◌else◌, Option, Some, None, slice_get, List, [], ◌∷◌, ◌++◌, length, map}
-use Rattle.std.specs.List.{All}
-use Rattle.places.specs.declared.value.Stage.{Stage}
-use Rattle.places.specs.declared.value.Stage.TheVariants.{Ready, Waiting}
-use Rattle.scenario.specs.declared.event.Event.{Event}
-use Rattle.scenario.specs.declared.event.Event.TheVariants.{Step}
-use Rattle.scenario.specs.declared.setup.Instruction.{Instruction}
-use Rattle.scenario.specs.declared.setup.Instruction.TheVariants.{Push, Reap}
-use Rattle.scenario.specs.declared.setup.Setup.{Setup}
-use Rattle.machine.specs.declared.whole.Machine.{Machine}
-use Rattle.machine.specs.Threads.{ThreadState}
-use Rattle.finding_kinds.specs.declared.finding.Finding.{Finding}
-use Rattle.finding_kinds.specs.declared.kind.Kind.TheVariants.{Lasting}
-use Rattle.finding_kinds.specs.declared.kind.LastingKind.{LastingKind}
-use Rattle.findings.specs.declared.conditions.Condition.{Condition}
-use Rattle.findings.specs.declared.conditions.Condition.TheVariants.{Waits, LostWakeUp, NotTaken, NotReaped, Stuck}
-use Rattle.findings.specs.declared.conditions.Next.{Next}
+use Rattle.std.specs.Prelude.{◌≡◌, ℕ, zero, suc, ◌==◌, Bool, true, false, nat_lt, if◌then◌else◌, Option, Some, None, slice_get, List, [], ◌∷◌, ◌++◌, length, map, All}
+use Rattle.findings.specs.Common.{Stage, Ready, Waiting, Event, Step, Instruction, Push, Reap, Setup, Machine, ThreadState, Finding, Lasting, LastingKind, Condition, Waits, LostWakeUp, NotTaken, NotReaped, Stuck, Next, Watch, instruction_at}
+use Rattle.findings.specs.{AtEnd.reported_as, Conditions.condition_holds, Conditions.is_blocked}
 use Rattle.findings.specs.declared.conditions.Next.TheVariants as next
-use Rattle.findings.specs.declared.watching.Watch.{Watch}
-use Rattle.findings.specs.AtEnd.{reported_as}
-use Rattle.findings.specs.Conditions.{is_blocked, condition_holds}
-use Rattle.finding_kinds.specs.Programs.{instruction_at}
 
 -- What a thread with a stage and a next instruction does next.
 abbrev pub next_at : Stage → Option Instruction → Next
@@ -30,12 +12,12 @@ next_at Ready (Some Reap) = next.Reaps
 next_at Ready x = next.Other
 
 -- What thread t does next, if it belongs to the setup.
-abbrev pub next_in : Setup → ℕ → Option ThreadState → Next
-next_in s t None = next.Other
-next_in s t (Some x) = if nat_lt t (length s.threads) then next_at x.stage (instruction_at s (Step t) (Some x.counter)) else next.Other
+abbrev pub thread_next : Setup → ℕ → Option ThreadState → Next
+thread_next s t None = next.Other
+thread_next s t (Some x) = if nat_lt t (length s.threads) then next_at x.stage (instruction_at s (Step t) (Some x.counter)) else next.Other
 
 abbrev pub next_of : Setup → Machine → ℕ → Next
-next_of s m t = next_in s t (slice_get m.threads t)
+next_of s m t = thread_next s t (slice_get m.threads t)
 
 -- Whether it waits in its enter.
 abbrev pub is_waiting : Next → Bool

@@ -1,7 +1,7 @@
 //! Findings about completed cancels and removals, by the requests that they match
 //! (io_uring_prep_cancel(3)).
 ghost use Rattle.std.specs.Prelude.{◌≡◌};
-ghost use Rattle.findings.specs.Canceling.{cancel_in, cancel_before, matches_some, is_of_cancel};
+ghost use Rattle.findings.specs.{cancel_in, cancel_before, is_of_cancel};
 
 use crate::leftover::row_at;
 use entries::{Row, Sqe};
@@ -39,17 +39,7 @@ pub(crate) fn cancel_before(state: &State, event: Event) -> Option<Cancel>
     let Event::Finish(number, _) = event else {
         return None;
     };
-    match row_at(state, number) {
-        Some(row) => cancel_in(state, number, &row),
-        None => None,
-    }
-}
-
-// Returns whether some request still matches.
-fn matches_some(cancel: &Cancel, state: &State) -> bool
-    ensures { result ≡ matches_some cancel.now state.now.table }
-{
-    state.match_count(&cancel.entry, cancel.number) > 0
+    cancel_in(state, number, &row_at(state, number)?)
 }
 
 /// Returns whether a completed cancel or removal is a finding of this kind, by the state after it.
@@ -59,6 +49,8 @@ pub(crate) fn is_of_cancel(kind: CancelKind, cancel: &Cancel, state: &State) -> 
     match kind {
         CancelKind::NoneFound => takes_all(&cancel.entry) && cancel.matched == 0,
         CancelKind::Several => !takes_all(&cancel.entry) && cancel.matched > 1,
-        CancelKind::LeftRunning => takes_all(&cancel.entry) && matches_some(cancel, state),
+        CancelKind::LeftRunning => {
+            takes_all(&cancel.entry) && state.match_count(&cancel.entry, cancel.number) > 0
+        }
     }
 }

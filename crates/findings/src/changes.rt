@@ -1,30 +1,21 @@
 //! One pass over an undo record: collects the findings about requests, their history, and the set
 //! of incomplete READs and WRITEs.
-ghost use Rattle.std.specs.Prelude.{◌≡◌, ◌++◌, OnOk};
-ghost use Rattle.std.specs.List.{flat_map};
-ghost use Rattle.machine.specs.Whole.{view};
-ghost use Rattle.places.specs.View.{NamesOnce};
-ghost use Rattle.findings.specs.Records.{noted_by, of_place, of_change, after_note, after_notes, IsListed, OfNoRow};
+ghost use Rattle.std.specs.Prelude.{◌≡◌, ◌++◌, OnOk, flat_map};
+ghost use Rattle.findings.specs.{view, NamesOnce, noted_by, of_place, of_change, after_note, after_notes, IsListed, OfNoRow};
 
 use crate::completed::{Completed, prepare};
 use crate::conflicts::is_candidate;
 use crate::following::{follow, is_candidate_in};
 use crate::leftover::row_at;
 use crate::noting::note_row;
-use crate::record::{add_of_row, row_in};
+use crate::record::{Added, add_of_row, row_in};
 use crate::transition::Transition;
 use entries::Phase;
 use finding_kinds::{Finding, Times};
 use places::{Change, Changes, Place, Stretches, Value};
-use std::alloc::AllocError;
 
 // Records the phase of a request, if the search keeps the history.
-fn note_phase(
-    times: &mut Vec<Times>,
-    at: Transition<'_>,
-    number: u32,
-    phase: Phase,
-) -> Result<(), AllocError> {
+fn note_phase(times: &mut Vec<Times>, at: Transition<'_>, number: u32, phase: Phase) -> Added {
     if !at.keeps_history {
         return Ok(());
     }
@@ -41,7 +32,7 @@ fn look_at_row(
     at: Transition<'_>,
     number: u32,
     old: Option<Value>,
-) -> Result<(), AllocError>
+) -> Added
     requires { IsListed at.state.now at.past.now completed.old }
     ensures added { OnOk result (found.new.items ≡ found.old.items
         ++ of_place at.entry.moment (noted_by at.entry.setup.now at.entry.past.now
@@ -69,7 +60,7 @@ fn look_at_change(
     completed: &mut Completed,
     at: Transition<'_>,
     change: Change,
-) -> Result<(), AllocError>
+) -> Added
     requires { IsListed at.state.now at.past.now completed.old }
     ensures added { OnOk result (found.new.items ≡ found.old.items
         ++ of_change at.entry.moment (noted_by at.entry.setup.now at.entry.past.now
@@ -93,7 +84,7 @@ fn look_at_changes(
     completed: &mut Completed,
     at: Transition<'_>,
     rest: &mut Changes<'_>,
-) -> Result<(), AllocError>
+) -> Added
     requires { IsListed at.state.now at.past.now completed.old }
     ensures added { OnOk result (found.new.items ≡ found.old.items
         ++ flat_map (of_change at.entry.moment (noted_by at.entry.setup.now at.entry.past.now
@@ -128,7 +119,7 @@ pub(crate) fn look_at_record(
     numbers: &mut Vec<u32>,
     times: &mut Vec<Times>,
     at: Transition<'_>,
-) -> Result<(), AllocError>
+) -> Added
     ensures added { OnOk result (found.new.items ≡ found.old.items
         ++ flat_map (of_change at.entry.moment (noted_by at.entry.setup.now at.entry.past.now
         at.entry.before at.entry.event at.entry.state.now)

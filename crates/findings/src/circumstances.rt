@@ -1,13 +1,7 @@
 //! What a finding about a completed request depends on besides the request (read(2), write(2),
 //! io_uring_enter(2)).
-ghost use Rattle.std.specs.Prelude.{◌≡◌, ◌==◌, ◌&&◌, not, false, slice_get};
-ghost use Rattle.std.specs.Option.{option_map_or};
-ghost use Rattle.std.specs.List.{list_any};
-ghost use Rattle.links_drains.specs.Holding.{is_number};
-ghost use Rattle.findings.specs.Endings.{is_verdict};
-ghost use Rattle.findings.specs.Conflicts.{moved, file_of};
-ghost use Rattle.findings.specs.Completions.{ends_before, is_short_of_end, is_later, member_of, is_expiry_of, limits, expires_over, could_finish, has_ready_target, expires_over_ready, was_canceled, has_canceled_target};
-ghost use Rattle.findings.specs.Records.{is_severed_in, noted};
+ghost use Rattle.std.specs.Prelude.{◌≡◌, ◌==◌, ◌&&◌, not, false};
+ghost use Rattle.findings.specs.{list_any, is_number, is_verdict, moved, file_of, ends_before, is_short_of_end, is_later, member_of, is_expiry_of, limits, expires_over, could_finish, has_ready_target, expires_over_ready, was_canceled, has_canceled_target, is_severed_in, noted};
 
 use crate::completed::{Completed, Member};
 use crate::conflicts::{begins, moved, number_or_zero};
@@ -15,6 +9,7 @@ use crate::ends::{continues, is_canceled, result_in};
 use crate::files::file_of;
 use crate::leftover::row_at;
 use crate::transition::Transition;
+use crate::uses::is_number;
 use entries::{Choice, Row};
 use finding_kinds::Verdict;
 use links_drains::is_guard;
@@ -43,24 +38,16 @@ fn ends_before(state: &State, count: u64, row: &Row, object: u32) -> bool
     end < u128::from(number_or_zero(state.value(Place::FileLength(object))))
 }
 
-// Returns whether the transfer stopped before the end of a regular file.
-fn stopped_early(at: Transition<'_>, row: &Row) -> bool
-    ensures { result ≡ option_map_or
-        (ends_before at.entry.state.now (moved row.now.phase) row.now.entry)
-        (file_of at.entry.setup.now row.now.entry.fd) false }
-{
-    match file_of(at.setup, row.entry.fd) {
-        Some(object) => ends_before(at.state, moved(row.phase), row, object),
-        None => false,
-    }
-}
-
 /// Returns whether the request is a WRITE, or a READ of a regular file that stopped before the
 /// file's end.
 pub(crate) fn is_short_of_end(at: Transition<'_>, row: &Row) -> bool
     ensures { result ≡ is_short_of_end at.entry.setup.now at.entry.state.now row.now }
 {
-    row.entry.opcode == Op::Write as u8 || stopped_early(at, row)
+    row.entry.opcode == Op::Write as u8
+        || matches!(
+            file_of(at.setup, row.entry.fd),
+            Some(object) if ends_before(at.state, moved(row.phase), row, object)
+        )
 }
 
 // ---- chains
@@ -101,20 +88,11 @@ pub(crate) fn severs_others(
     continues(at.state, number, row) && has_later(&completed.canceled, member_of(number, row))
 }
 
-// Returns whether one request severed the chain of another, and the event canceled a later one.
-fn severs(canceled: &[Member], member: Member, other: Member) -> bool
-    ensures { result ≡ (is_later member other && list_any (is_later member) canceled.now) }
-{
-    is_later(member, other) && has_later(canceled, member)
-}
-
 // Returns whether an earlier request severed the member's chain.
 fn is_severed(severing: &[Member], canceled: &[Member], member: Member) -> bool
     ensures { result ≡ is_severed_in severing.now canceled.now member }
 {
-    severing
-        .iter()
-        .any(|other| severs(canceled, *other, member))
+    severing.iter().any(|other| is_later(*other, member) && has_later(canceled, *other))
 }
 
 // Returns whether an earlier request severed the chain of the request. The first request of a chain
@@ -134,15 +112,6 @@ fn is_row_severed(completed: &Completed, number: u32, row: &Row) -> bool
 
 // ---- linked timeouts
 
-fn is_number(number: Option<u32>, other: u32) -> bool
-    ensures { result ≡ is_number number other }
-{
-    match number {
-        Some(number) => number == other,
-        None => false,
-    }
-}
-
 // Returns whether the request is the linked timeout of another.
 fn limits(number: u32, row: &Row) -> bool
     ensures { result ≡ limits number row.now }
@@ -150,21 +119,14 @@ fn limits(number: u32, row: &Row) -> bool
     is_guard(row) && is_number(row.target, number)
 }
 
-fn limits_at(state: &State, guard: u32, number: u32) -> bool
-    ensures { result ≡ option_map_or (limits number) (slice_get state.now.table guard) false }
-{
-    match row_at(state, guard) {
-        Some(row) => limits(number, &row),
-        None => false,
-    }
-}
-
 // Returns whether the event is the expiry of the linked timeout of a request.
 fn expires_over(state: &State, event: Event, number: u32) -> bool
     ensures { result ≡ expires_over state.now.table event number }
 {
     match event {
-        Event::Expire(guard) => limits_at(state, guard, number),
+        Event::Expire(guard) => {
+            matches!(row_at(state, guard), Some(row) if limits(number, &row))
+        }
         _ => false,
     }
 }
@@ -185,20 +147,11 @@ fn could_finish(state: &State, number: u32) -> bool
     state.refuses(Event::Finish(number, Choice::Full)).is_none()
 }
 
-fn target_could_finish(state: &State, target: Option<u32>) -> bool
-    ensures { result ≡ option_map_or (could_finish state.now) target false }
-{
-    match target {
-        Some(number) => could_finish(state, number),
-        None => false,
-    }
-}
-
 // Returns whether the request is a linked timeout whose target could complete in full.
 fn has_ready_target(state: &State, row: &Row) -> bool
     ensures { result ≡ has_ready_target state.now row.now }
 {
-    is_guard(row) && target_could_finish(state, row.target)
+    is_guard(row) && matches!(row.target, Some(number) if could_finish(state, number))
 }
 
 /// Returns whether the event is the expiry of a linked timeout whose target could complete in full,
@@ -209,37 +162,22 @@ pub(crate) fn expires_over_ready(state: &State, event: Event) -> bool
     let Event::Expire(number) = event else {
         return false;
     };
-    match row_at(state, number) {
-        Some(row) => has_ready_target(state, &row),
-        None => false,
-    }
+    matches!(row_at(state, number), Some(row) if has_ready_target(state, &row))
 }
 
 fn was_canceled(row: &Row) -> bool
     ensures { result ≡ was_canceled row.now }
 {
-    match result_in(row.phase) {
-        Some(res) => is_canceled(res),
-        None => false,
-    }
-}
-
-fn was_canceled_at(state: &State, number: u32) -> bool
-    ensures { result ≡ option_map_or was_canceled (slice_get state.now.table number) false }
-{
-    match row_at(state, number) {
-        Some(row) => was_canceled(&row),
-        None => false,
-    }
+    matches!(result_in(row.phase), Some(res) if is_canceled(res))
 }
 
 fn has_canceled_target(state: &State, row: &Row) -> bool
     ensures { result ≡ has_canceled_target state.now.table row.now }
 {
-    match row.target {
-        Some(target) => was_canceled_at(state, target),
-        None => false,
-    }
+    let Some(target) = row.target else {
+        return false;
+    };
+    matches!(row_at(state, target), Some(row) if was_canceled(&row))
 }
 
 /// Returns whether the event is the expiry of this linked timeout, and canceled its target though

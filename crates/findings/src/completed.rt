@@ -1,17 +1,16 @@
 //! The requests that an event completes, as far as they sever their chain or are canceled
 //! (io_uring_enter(2), IOSQE_IO_LINK).
-ghost use Rattle.std.specs.Prelude.{◌≡◌, ◌++◌, [], true, false, IfOk, OnOk};
-ghost use Rattle.std.specs.List.{flat_map};
-ghost use Rattle.findings.specs.Records.{member_if, members_at, members_of, severs_chain, cancels_at, severing_in, canceled_in, depends_on_others, IsListed};
+ghost use Rattle.std.specs.Prelude.{◌≡◌, ◌++◌, [], true, false, IfOk, OnOk, flat_map};
+ghost use Rattle.findings.specs.{member_if, members_of, severs_chain, cancels_at, severing_in, canceled_in, depends_on_others, IsListed};
 
 use crate::changes::pass_over;
 use crate::ends::{cancels, continues, depends_on_others, is_severing};
 use crate::leftover::row_at;
-use crate::record::row_in;
+use crate::record::{Added, row_in};
 use crate::transition::Transition;
 use entries::Row;
 use machine::State;
-use places::{Change, Changes, Place, Record, Value};
+use places::{Change, Changes, Place, Record};
 use std::alloc::{AllocError, Global};
 
 /// The number of a request, and of its chain.
@@ -49,7 +48,7 @@ impl Completed {
 }
 
 // Appends a request if the test is true.
-fn add_member(list: &mut Vec<Member>, test: bool, number: u32, row: &Row) -> Result<(), AllocError>
+fn add_member(list: &mut Vec<Member>, test: bool, number: u32, row: &Row) -> Added
     ensures { OnOk result (list.new.items ≡ list.old.items ++ member_if test number row.now) }
 {
     if test {
@@ -62,28 +61,7 @@ fn add_member(list: &mut Vec<Member>, test: bool, number: u32, row: &Row) -> Res
 }
 
 // Adds a request that the record names.
-fn add_row(
-    completed: &mut Completed,
-    state: &State,
-    number: u32,
-    old: Option<Value>,
-) -> Result<(), AllocError>
-    ensures severing { OnOk result (completed.new.severing.items ≡ completed.old.severing.items
-        ++ members_at (severs_chain state.now.table) state.now.table old (Place.Request number)) }
-    ensures canceled { OnOk result (completed.new.canceled.items ≡ completed.old.canceled.items
-        ++ members_at cancels_at state.now.table old (Place.Request number)) }
-{
-    let Some(row) = row_at(state, number) else {
-        return Ok(());
-    };
-    let before = row_in(old);
-    let severing = continues(state, number, &row) && is_severing(&before, &row);
-    add_member(&mut completed.severing, severing, number, &row)?;
-    let canceled = cancels(&before, &row);
-    add_member(&mut completed.canceled, canceled, number, &row)
-}
-
-fn add_change(completed: &mut Completed, state: &State, change: Change) -> Result<(), AllocError>
+fn add_change(completed: &mut Completed, state: &State, change: Change) -> Added
     ensures severing { OnOk result (completed.new.severing.items ≡ completed.old.severing.items
         ++ members_of (severs_chain state.now.table) state.now.table change) }
     ensures canceled { OnOk result (completed.new.canceled.items ≡ completed.old.canceled.items
@@ -92,14 +70,17 @@ fn add_change(completed: &mut Completed, state: &State, change: Change) -> Resul
     let Place::Request(number) = change.place else {
         return Ok(());
     };
-    add_row(completed, state, number, change.old)
+    let Some(row) = row_at(state, number) else {
+        return Ok(());
+    };
+    let before = row_in(change.old);
+    let severing = continues(state, number, &row) && is_severing(&before, &row);
+    add_member(&mut completed.severing, severing, number, &row)?;
+    let canceled = cancels(&before, &row);
+    add_member(&mut completed.canceled, canceled, number, &row)
 }
 
-fn add_changes(
-    completed: &mut Completed,
-    state: &State,
-    rest: &mut Changes<'_>,
-) -> Result<(), AllocError>
+fn add_changes(completed: &mut Completed, state: &State, rest: &mut Changes<'_>) -> Added
     ensures severing { OnOk result (completed.new.severing.items ≡ completed.old.severing.items
         ++ flat_map (members_of (severs_chain state.now.table) state.now.table) rest.old) }
     ensures canceled { OnOk result (completed.new.canceled.items ≡ completed.old.canceled.items
@@ -135,7 +116,7 @@ pub(crate) fn prepare(
     at: Transition<'_>,
     before: &Option<Row>,
     row: &Row,
-) -> Result<(), AllocError>
+) -> Added
     requires { IsListed at.state.now at.past.now completed.old }
     ensures listed { OnOk result (IsListed at.entry.state.now at.entry.past.now completed.new) }
     ensures known { OnOk result (depends_on_others before.now row.now ≡ true →

@@ -1,15 +1,6 @@
 //! Findings about the rings and the threads.
-ghost use Rattle.std.specs.Prelude.{◌≡◌, ◌==◌, false, length};
-ghost use Rattle.std.specs.Option.{option_copied, option_map_or};
-ghost use Rattle.links_drains.specs.Links.{has_flag};
-ghost use Rattle.ring_words.specs.Rings.{waiting};
-ghost use Rattle.findings.specs.Conditions.{needs_wake_up, overflows, has_entries, has_completions, counter_of, answer_of, has_closed, has_descriptor, is_of_step, condition_holds};
-ghost use Rattle.findings.specs.Endings.{is_error, is_less};
-ghost use Rattle.findings.specs.Records.{took_all, is_plain};
-ghost use Rattle.findings.specs.Watched.{next_at, next_of, is_waiting, blocks};
-ghost use Rattle.scenario.specs.declared.setup.Setup.{Setup};
-ghost use Rattle.machine.specs.Steps.{number_in};
-ghost use Rattle.findings.specs.Searching.{facts_before};
+ghost use Rattle.std.specs.Prelude.{◌≡◌, ◌==◌, false, length, option_copied};
+ghost use Rattle.findings.specs.{option_map_or, waiting, Setup, number_in, needs_wake_up, overflows, has_entries, has_completions, counter_of, answer_of, has_closed, has_descriptor, is_of_step, condition_holds, is_error, is_less, took_all, is_plain, next_at, next_of, blocks, facts_before};
 
 use crate::canceling::{Cancel, cancel_before};
 use crate::circumstances::expires_over_ready;
@@ -77,29 +68,17 @@ impl Before {
     }
 }
 
-fn flags_of(state: &State) -> u64
-    ensures { result ≡ state.now.submissions.flags }
-{
-    u64::from(state.submissions().flags())
-}
-
-fn has_flag(flags: u64, bit: u64) -> bool
-    ensures { result ≡ has_flag flags bit }
-{
-    flags & bit != 0
-}
-
 fn needs_wake_up(state: &State) -> bool
     ensures { result ≡ needs_wake_up state.now }
 {
-    has_flag(flags_of(state), IORING_SQ_NEED_WAKEUP as u64)
+    state.submissions().flags() & IORING_SQ_NEED_WAKEUP != 0
 }
 
 /// Returns whether the backlog holds completions.
 pub(crate) fn overflows(state: &State) -> bool
     ensures { result ≡ overflows state.now }
 {
-    has_flag(flags_of(state), IORING_SQ_CQ_OVERFLOW as u64)
+    state.submissions().flags() & IORING_SQ_CQ_OVERFLOW != 0
 }
 
 fn has_entries(state: &State) -> bool
@@ -142,47 +121,31 @@ fn answer(state: &State, thread: u32) -> Option<i64>
     }
 }
 
-// Returns whether a result is this error.
-fn is_error(errno: u64, answer: i64) -> bool
-    ensures { result ≡ is_error errno answer }
-{
-    answer < 0 && answer.unsigned_abs() == errno
-}
-
-fn is_less(answer: i64, number: u32) -> bool
-    ensures { result ≡ is_less answer number }
-{
-    answer >= 0 && (answer as u64) < number as u64
-}
-
 // Returns whether the thread's last result is this error.
 fn is_refused(errno: u64, state: &State, thread: u32) -> bool
     ensures { result ≡ option_map_or (is_error errno) (answer_of state.now thread) false }
 {
-    match answer(state, thread) {
-        Some(answer) => is_error(errno, answer),
-        None => false,
-    }
+    matches!(
+        answer(state, thread),
+        Some(answer) if answer < 0 && answer.unsigned_abs() == errno
+    )
 }
 
 // Returns whether the thread's last result is no error and below the number.
 fn is_answered_less(number: u32, state: &State, thread: u32) -> bool
     ensures { result ≡ option_map_or (λ n. is_less n number) (answer_of state.now thread) false }
 {
-    match answer(state, thread) {
-        Some(answer) => is_less(answer, number),
-        None => false,
-    }
+    matches!(
+        answer(state, thread),
+        Some(answer) if answer >= 0 && (answer as u64) < u64::from(number)
+    )
 }
 
 // Returns whether the close that the thread has now done succeeded.
 fn has_closed(state: &State, thread: u32) -> bool
     ensures { result ≡ has_closed state.now thread }
 {
-    match answer(state, thread) {
-        Some(answer) => answer == 0,
-        None => false,
-    }
+    matches!(answer(state, thread), Some(answer) if answer == 0)
 }
 
 /// Returns the first slot, pushed and not yet taken, whose entry names the descriptor that the
@@ -203,10 +166,7 @@ pub(crate) fn slot_met(setup: &Setup, state: &State, event: Event, before: Befor
 fn has_descriptor(state: &State, fd: i32) -> bool
     ensures { result ≡ option_map_or (has_descriptor state.now) (number_in fd) false }
 {
-    match descriptor_number(fd) {
-        Some(number) => state.value(Place::OpenMark(number)).is_some(),
-        None => false,
-    }
+    matches!(descriptor_number(fd), Some(number) if state.value(Place::OpenMark(number)).is_some())
 }
 
 // Returns whether an enter took all entries, or waits.
@@ -304,15 +264,6 @@ fn is_full(state: &State) -> bool
     ring.waiting() == ring.size()
 }
 
-fn is_waiting(next: Next) -> bool
-    ensures { result ≡ is_waiting next }
-{
-    match next {
-        Next::Waits => true,
-        Next::Pushes | Next::Reaps | Next::Other => false,
-    }
-}
-
 // Returns whether what a thread does next is a push or a reap that can't be done yet.
 fn is_stuck(next: Next, state: &State) -> bool
     ensures { result ≡ blocks state.now next }
@@ -334,7 +285,7 @@ pub(crate) fn condition_holds(condition: Condition, state: &State, subject: u32,
         Condition::LostWakeUp => subject == 0 && (needs_wake_up(state) && has_entries(state)),
         Condition::NotTaken => subject == 0 && (!needs_wake_up(state) && has_entries(state)),
         Condition::NotReaped => subject == 0 && (overflows(state) || has_completions(state)),
-        Condition::Waits => is_waiting(next),
+        Condition::Waits => matches!(next, Next::Waits),
         Condition::Stuck => is_stuck(next, state),
     }
 }

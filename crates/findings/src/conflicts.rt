@@ -1,9 +1,6 @@
 //! Conflicts between an event and incomplete READs and WRITEs that are not ordered with it.
 ghost use Rattle.std.specs.Prelude.{◌≡◌, ◌==◌};
-ghost use Rattle.opcodes.specs.Outcomes.{is_at_position};
-ghost use Rattle.links_drains.specs.Links.{has_drain_flag};
-ghost use Rattle.links_drains.specs.Eligible.{drains, is_before_in_unit, is_before_in_drain};
-ghost use Rattle.findings.specs.Conflicts.{meet, moved, is_good, is_in_buffer, is_same_file, number_or_zero, position_at, begins, is_placed, is_over, is_by_position, is_between, is_after_barrier, is_ordered_after, is_candidate, is_synced_early, would_conflict, is_stored_over, is_conflict, conflicts};
+ghost use Rattle.findings.specs.{is_at_position, has_drain_flag, drains, is_before_in_drain, meet, moved, is_good, is_in_buffer, is_same_file, number_or_zero, position_at, begins, is_placed, is_over, is_by_position, is_between, is_after_barrier, is_ordered_after, is_candidate, is_synced_early, would_conflict, is_conflict, conflicts};
 
 use crate::effect::{Effect, is_transfer};
 use crate::files::{is_same_descriptor, is_same_file};
@@ -41,10 +38,7 @@ pub(crate) fn moved(phase: Phase) -> u64
 fn is_good(phase: Phase) -> bool
     ensures { result ≡ is_good phase }
 {
-    match phase {
-        Phase::Ended(res) => res >= 0,
-        _ => false,
-    }
+    matches!(phase, Phase::Ended(res) if res >= 0)
 }
 
 fn is_in_buffer(address: u64, count: u64, row: &Row) -> bool
@@ -151,12 +145,6 @@ fn drains(state: &State, unit: u32) -> bool
     false
 }
 
-fn is_before_in_unit(number: u32, row: &Row, other: u32, before: &Row) -> bool
-    ensures { result ≡ is_before_in_unit number row.now other before.now }
-{
-    before.unit == row.unit && (other < number && !is_guard(before))
-}
-
 fn is_before_in_drain(state: &State, row: &Row, before: &Row) -> bool
     ensures { result ≡ is_before_in_drain state.now.table row.now before.now }
 {
@@ -195,7 +183,7 @@ fn is_after_barrier(state: &State, row: &Row, before: &Row) -> bool
 fn is_ordered_after(state: &State, number: u32, row: &Row, other: u32, before: &Row) -> bool
     ensures { result ≡ is_ordered_after state.now.table number row.now other before.now }
 {
-    is_before_in_unit(number, row, other, before)
+    (before.unit == row.unit && (other < number && !is_guard(before)))
         || (is_before_in_drain(state, row, before) || is_after_barrier(state, row, before))
 }
 
@@ -253,16 +241,6 @@ fn would_conflict(
     }
 }
 
-// Returns whether a store to this memory is a finding of this kind about the request.
-fn is_stored_over(kind: ConflictKind, address: u64, count: u64, row: &Row) -> bool
-    ensures { result ≡ is_stored_over kind address count row.now }
-{
-    match kind {
-        ConflictKind::BufferInUse => is_in_buffer(address, count, row),
-        _ => false,
-    }
-}
-
 fn is_conflict(
     kind: ConflictKind,
     at: Transition<'_>,
@@ -275,7 +253,9 @@ fn is_conflict(
 {
     match effect {
         Effect::Nothing => false,
-        Effect::Stored(address, count) => is_stored_over(kind, *address, *count, row),
+        Effect::Stored(address, count) => {
+            matches!(kind, ConflictKind::BufferInUse) && is_in_buffer(*address, *count, row)
+        }
         Effect::Finished(by, done) => {
             would_conflict(kind, at, *by, done, number, row)
                 && !is_ordered_after(at.state, number, row, *by, done)

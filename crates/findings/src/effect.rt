@@ -1,9 +1,6 @@
 //! The effect of an event that can conflict with other requests.
-ghost use Rattle.std.specs.Prelude.{◌≡◌};
-ghost use Rattle.std.specs.Option.{option_copied};
-ghost use Rattle.timeouts_cancel.specs.Cascades.{is_transfer};
-ghost use Rattle.finding_kinds.specs.Programs.{instruction_at};
-ghost use Rattle.findings.specs.Conflicts.{effect_of, finish_of, finished_in, done_as};
+ghost use Rattle.std.specs.Prelude.{◌≡◌, option_copied};
+ghost use Rattle.findings.specs.{is_transfer, instruction_at, effect_of, finished_in, done_as};
 
 use crate::conditions::Before;
 use crate::leftover::row_at;
@@ -40,23 +37,15 @@ pub(crate) fn is_transfer(row: &Row) -> bool
     row.entry.opcode == Op::Read as u8 || row.entry.opcode == Op::Write as u8
 }
 
-fn finish_of(number: u32, row: Row) -> Effect
-    ensures { result ≡ finish_of number row }
-{
-    if is_transfer(&row) || row.entry.opcode == Op::Fsync as u8 {
-        Effect::Finished(number, row)
-    } else {
-        Effect::Nothing
-    }
-}
-
 /// Returns the effect of completing a request, by the state after it.
 pub(crate) fn finished_in(state: &State, number: u32) -> Effect
     ensures { result ≡ finished_in state.now number }
 {
     match row_at(state, number) {
-        Some(row) => finish_of(number, row),
-        None => Effect::Nothing,
+        Some(row) if is_transfer(&row) || row.entry.opcode == Op::Fsync as u8 => {
+            Effect::Finished(number, row)
+        }
+        _ => Effect::Nothing,
     }
 }
 

@@ -1,14 +1,10 @@
 //! Findings about requests that an event submits or completes (io_uring_enter(2)).
 ghost use Rattle.std.specs.Prelude.{◌≡◌, ◌+◌, ◌&&◌, false, slice_get};
-ghost use Rattle.std.specs.Option.{option_map_or};
-ghost use Rattle.timeouts_cancel.specs.Cascades.{is_bad, is_transfer};
-ghost use Rattle.links_drains.specs.Links.{has_flag, is_guard, is_linked};
-ghost use Rattle.findings.specs.Endings.{had_ended, was_issued, result_in, ending_of, is_error, is_less, is_reported_apart, severs, next_in, has_next, leaves_chain, is_of, has_idle_field, comes_as, ended_test, queued_test};
-ghost use Rattle.findings.specs.Completions.{is_severing, cancels};
-ghost use Rattle.findings.specs.Records.{continues, depends_on_others, is_notable, noted};
+ghost use Rattle.findings.specs.{option_map_or, is_bad, is_transfer, is_guard, is_linked, was_issued, result_in, ending_of, is_error, is_less, is_reported_apart, severs, next_in, has_next, leaves_chain, is_of, has_idle_field, comes_as, ended_test, queued_test, is_severing, cancels, continues, depends_on_others, is_notable, noted};
 
 use crate::circumstances::{is_named, is_short_of_end, is_verdict, severs_others, was_ready};
 use crate::completed::Completed;
+use crate::effect::is_transfer;
 use crate::leftover::row_at;
 use crate::transition::Transition;
 use crate::twins::has_twin;
@@ -20,22 +16,10 @@ use links_drains::{is_guard, is_soft_linked};
 use machine::State;
 use opcodes::{Op, is_cancel, is_timer};
 
-fn had_ended(before: &Option<Row>) -> bool
-    ensures { result ≡ had_ended before.now }
-{
-    match before {
-        Some(row) => matches!(row.phase, Phase::Ended(_)),
-        None => false,
-    }
-}
-
 fn was_issued(before: &Option<Row>) -> bool
     ensures { result ≡ was_issued before.now }
 {
-    match before {
-        Some(row) => matches!(row.phase, Phase::Issued),
-        None => false,
-    }
+    matches!(before, Some(row) if matches!(row.phase, Phase::Issued))
 }
 
 /// Returns the result of a completed request.
@@ -52,7 +36,7 @@ pub(crate) fn result_in(phase: Phase) -> Option<i32>
 fn ending_of(before: &Option<Row>, row: &Row) -> Option<i32>
     ensures { result ≡ ending_of before.now row.now }
 {
-    if had_ended(before) {
+    if matches!(before, Some(row) if matches!(row.phase, Phase::Ended(_))) {
         return None;
     }
     result_in(row.phase)
@@ -72,36 +56,6 @@ pub(crate) fn is_canceled(res: i32) -> bool
     is_error(ECANCELED as u32, res)
 }
 
-fn is_out_of_time(res: i32) -> bool
-    ensures { result ≡ is_error 62 res }
-{
-    is_error(ETIME as u32, res)
-}
-
-fn is_not_there(res: i32) -> bool
-    ensures { result ≡ is_error 2 res }
-{
-    is_error(ENOENT as u32, res)
-}
-
-fn is_under_way(res: i32) -> bool
-    ensures { result ≡ is_error 114 res }
-{
-    is_error(EALREADY as u32, res)
-}
-
-fn is_less(res: i32, number: u32) -> bool
-    ensures { result ≡ is_less res number }
-{
-    res >= 0 && (res as u32) < number
-}
-
-fn is_transfer(row: &Row) -> bool
-    ensures { result ≡ is_transfer row.now.entry.opcode }
-{
-    row.entry.opcode == Op::Read as u8 || row.entry.opcode == Op::Write as u8
-}
-
 fn is_bad(row: &Row, res: i32) -> bool
     ensures { result ≡ is_bad row.now res }
 {
@@ -116,8 +70,9 @@ fn is_reported_apart(row: &Row, res: i32) -> bool
     ensures { result ≡ is_reported_apart row.now res }
 {
     is_canceled(res)
-        || (is_timer(row.entry.opcode) && is_out_of_time(res)
-            || (is_cancel(row.entry.opcode) && (is_not_there(res) || is_under_way(res))))
+        || (is_timer(row.entry.opcode) && is_error(ETIME as u32, res)
+            || (is_cancel(row.entry.opcode)
+                && (is_error(ENOENT as u32, res) || is_error(EALREADY as u32, res))))
 }
 
 // Returns whether a soft-linked request failed or was short itself, rather than being canceled with
@@ -132,20 +87,14 @@ fn severs(before: &Option<Row>, row: &Row, res: i32) -> bool
 pub(crate) fn continues(state: &State, number: u32, row: &Row) -> bool
     ensures { result ≡ continues state.now.table number row.now }
 {
-    match next_in(state, number) {
-        Some(other) => other.unit == row.unit,
-        None => false,
-    }
+    matches!(next_in(state, number), Some(other) if other.unit == row.unit)
 }
 
 /// Returns whether the event completes the request, and it severs its chain.
 pub(crate) fn is_severing(before: &Option<Row>, row: &Row) -> bool
     ensures { result ≡ is_severing before.now row.now }
 {
-    match ending_of(before, row) {
-        Some(res) => severs(before, row, res),
-        None => false,
-    }
+    matches!(ending_of(before, row), Some(res) if severs(before, row, res))
 }
 
 /// Returns whether a finding about the completion of the request can depend on other requests that
@@ -153,10 +102,7 @@ pub(crate) fn is_severing(before: &Option<Row>, row: &Row) -> bool
 pub(crate) fn depends_on_others(before: &Option<Row>, row: &Row) -> bool
     ensures { result ≡ depends_on_others before.now row.now }
 {
-    match ending_of(before, row) {
-        Some(res) => is_canceled(res) || severs(before, row, res),
-        None => false,
-    }
+    matches!(ending_of(before, row), Some(res) if is_canceled(res) || severs(before, row, res))
 }
 
 /// Returns whether the event completes the request, and that can be a finding: with an error, or
@@ -164,26 +110,17 @@ pub(crate) fn depends_on_others(before: &Option<Row>, row: &Row) -> bool
 pub(crate) fn ends_notably(before: &Option<Row>, row: &Row) -> bool
     ensures { result ≡ option_map_or (is_notable row.now) (ending_of before.now row.now) false }
 {
-    match ending_of(before, row) {
-        Some(res) => res < 0 || (is_bad(row, res) || is_short(row, res)),
-        None => false,
-    }
-}
-
-fn is_canceled_now(before: &Option<Row>, row: &Row) -> bool
-    ensures { result ≡ option_map_or (is_error 125) (ending_of before.now row.now) false }
-{
-    match ending_of(before, row) {
-        Some(res) => is_canceled(res),
-        None => false,
-    }
+    matches!(
+        ending_of(before, row),
+        Some(res) if res < 0 || (is_bad(row, res) || is_short(row, res))
+    )
 }
 
 /// Returns whether the event cancels the request, and it is no linked timeout.
 pub(crate) fn cancels(before: &Option<Row>, row: &Row) -> bool
     ensures { result ≡ cancels before.now row.now }
 {
-    !is_guard(row) && is_canceled_now(before, row)
+    !is_guard(row) && matches!(ending_of(before, row), Some(res) if is_canceled(res))
 }
 
 // Returns the request that is `count` after the given one, if there is one.
@@ -191,10 +128,7 @@ fn row_after(state: &State, number: u32, count: u32) -> Option<Row>
     ensures { result ≡ slice_get state.now.table (number + count) }
 {
     let _row = row_at(state, number);
-    match number.checked_add(count) {
-        Some(next) => row_at(state, next),
-        None => None,
-    }
+    row_at(state, number.checked_add(count)?)
 }
 
 // Returns the request after the given one, skipping a linked timeout.
@@ -208,23 +142,14 @@ fn next_in(state: &State, number: u32) -> Option<Row>
 fn has_next(row: &Row, state: &State, number: u32) -> bool
     ensures { result ≡ has_next row.now (next_in state.now.table number) }
 {
-    match next_in(state, number) {
-        Some(other) => other.unit == row.unit && !is_guard(&other),
-        None => false,
-    }
-}
-
-fn is_hard_linked(row: &Row) -> bool
-    ensures { result ≡ has_flag row.now.entry.flags 8 }
-{
-    row.entry.flags & IOSQE_IO_HARDLINK != 0
+    matches!(next_in(state, number), Some(other) if other.unit == row.unit && !is_guard(&other))
 }
 
 // Returns whether a hard-linked request fails or is short, and its chain continues.
 fn leaves_chain(before: &Option<Row>, row: &Row, res: i32) -> bool
     ensures { result ≡ leaves_chain before.now row.now res }
 {
-    is_hard_linked(row)
+    row.entry.flags & IOSQE_IO_HARDLINK != 0
         && (is_bad(row, res) && (was_issued(before) || (before.is_some() && !is_canceled(res))))
 }
 
@@ -232,14 +157,7 @@ fn leaves_chain(before: &Option<Row>, row: &Row, res: i32) -> bool
 fn is_short(row: &Row, res: i32) -> bool
     ensures { result ≡ (is_transfer row.now.entry.opcode && is_less res row.now.entry.len) }
 {
-    is_transfer(row) && is_less(res, row.entry.len)
-}
-
-// Returns whether a linked timeout expired.
-fn has_timed_out(row: &Row, res: i32) -> bool
-    ensures { result ≡ (is_guard row.now && is_error 62 res) }
-{
-    is_guard(row) && is_out_of_time(res)
+    is_transfer(row) && (res >= 0 && (res as u32) < row.entry.len)
 }
 
 // Returns whether completing with this result is a finding of this kind.
@@ -264,11 +182,12 @@ fn is_of(
         EndedKind::Severed => severs(before, row, res) && severs_others(at, completed, number, row),
         EndedKind::Canceled => is_canceled(res) && !is_named(at, completed, number, row),
         EndedKind::TimedOut(verdict) => {
-            has_timed_out(row, res) && is_verdict(verdict, was_ready(at, number, row))
+            (is_guard(row) && is_error(ETIME as u32, res))
+                && is_verdict(verdict, was_ready(at, number, row))
         }
-        EndedKind::Expired => row.entry.opcode == Op::Timeout as u8 && is_out_of_time(res),
-        EndedKind::NotFound => is_cancel(row.entry.opcode) && is_not_there(res),
-        EndedKind::TooLate => is_cancel(row.entry.opcode) && is_under_way(res),
+        EndedKind::Expired => row.entry.opcode == Op::Timeout as u8 && is_error(ETIME as u32, res),
+        EndedKind::NotFound => is_cancel(row.entry.opcode) && is_error(ENOENT as u32, res),
+        EndedKind::TooLate => is_cancel(row.entry.opcode) && is_error(EALREADY as u32, res),
         EndedKind::WentOn => leaves_chain(before, row, res) && has_next(row, at.state, number),
     }
 }
@@ -314,10 +233,10 @@ pub(crate) fn ended_test(
         at.entry.before at.entry.event at.entry.state.now number row.now) before.now
         at.entry.state.now.table number row.now }
 {
-    match ending_of(before, row) {
-        Some(res) => is_of(kind, at, completed, before, number, row, res),
-        None => false,
-    }
+    matches!(
+        ending_of(before, row),
+        Some(res) if is_of(kind, at, completed, before, number, row, res)
+    )
 }
 
 /// Returns whether the event submits the request, and that is a finding of this kind.

@@ -1,5 +1,6 @@
 //! FSYNCs of a file that failed, with the bytes that became suspect by each (fsync(2)).
 
+use crate::record::Added;
 use bit_sets::BitSet;
 use finding_kinds::{Failure, Retry};
 use std::alloc::{AllocError, Global};
@@ -18,7 +19,7 @@ pub struct Failures {
 }
 
 // Counts a failure that has bytes: the first few by their names.
-fn add_failure(retry: &mut Retry, failure: Failure) -> Result<(), AllocError> {
+fn add_failure(retry: &mut Retry, failure: Failure) -> Added {
     if retry.failures.len() < NAMED {
         retry.failures.push(failure)?;
     } else {
@@ -73,10 +74,7 @@ impl Failures {
     }
 
     fn forget_byte(&mut self, at: usize) {
-        let cause = match self.causes.get_mut(at) {
-            Some(cause) => cause.take(),
-            None => None,
-        };
+        let cause = self.causes.get_mut(at).and_then(|cause| cause.take());
         if let Some(index) = cause {
             if let Some(failure) = self.list.get_mut(index as usize) {
                 failure.bytes = failure.bytes.saturating_sub(1);

@@ -1,29 +1,20 @@
 //! The files that entries name by their descriptors.
 ghost use Rattle.std.specs.Prelude.{◌≡◌};
-ghost use Rattle.machine.specs.Steps.{number_in};
-ghost use Rattle.findings.specs.Conflicts.{file_number, file_of_descriptor, file_numbered, file_of, are_one, is_same_file};
+ghost use Rattle.findings.specs.{number_in, file_of_descriptor, file_numbered, file_of, are_one, is_same_file};
 
 use entries::Sqe;
 use finding_kinds::{FIRST_DESCRIPTOR, descriptor_number};
 use machine::Setup;
 use places::{Contents, Descriptor};
 
-fn file_number(object: u32, contents: &Contents) -> Option<u32>
-    ensures { result ≡ file_number object contents.now }
-{
-    match contents {
-        Contents::File(_) => Some(object),
-        _ => None,
-    }
-}
-
 // Returns the object of the descriptor, if it is a regular file.
 fn file_of_descriptor(setup: &Setup, descriptor: Descriptor) -> Option<u32>
     ensures { result ≡ file_of_descriptor setup.now descriptor }
 {
-    match setup.objects.as_slice().get(descriptor.object as usize) {
-        Some(object) => file_number(descriptor.object, &object.contents),
-        None => None,
+    let object = setup.objects.as_slice().get(descriptor.object as usize)?;
+    match &object.contents {
+        Contents::File(_) => Some(descriptor.object),
+        _ => None,
     }
 }
 
@@ -33,20 +24,15 @@ fn file_numbered(setup: &Setup, fd: u32) -> Option<u32>
     if fd < FIRST_DESCRIPTOR {
         return None;
     }
-    match setup.fds.as_slice().get((fd - FIRST_DESCRIPTOR) as usize) {
-        Some(descriptor) => file_of_descriptor(setup, *descriptor),
-        None => None,
-    }
+    let descriptor = setup.fds.as_slice().get((fd - FIRST_DESCRIPTOR) as usize)?;
+    file_of_descriptor(setup, *descriptor)
 }
 
 /// Returns the object number of the regular file that a descriptor refers to, if it does.
 pub(crate) fn file_of(setup: &Setup, fd: i32) -> Option<u32>
     ensures { result ≡ file_of setup.now fd }
 {
-    match descriptor_number(fd) {
-        Some(number) => file_numbered(setup, number),
-        None => None,
-    }
+    file_numbered(setup, descriptor_number(fd)?)
 }
 
 fn are_one(first: Option<u32>, second: Option<u32>) -> bool

@@ -1,20 +1,16 @@
 //! The set of incomplete READs and WRITEs, updated event by event.
 ghost use Rattle.std.specs.Prelude.{◌≡◌, not, ◌==◌, filter, OnOk};
-ghost use Rattle.findings.specs.Records.{is_candidate_in, followed};
+ghost use Rattle.findings.specs.{is_candidate_in, followed};
 
 use crate::conflicts::is_candidate;
-use crate::record::row_in;
+use crate::record::{Added, row_in};
 use places::Value;
-use std::alloc::AllocError;
 
 /// Returns whether the value is an incomplete READ or WRITE.
 pub(crate) fn is_candidate_in(value: Option<Value>) -> bool
     ensures { result ≡ is_candidate_in value }
 {
-    match row_in(value) {
-        Some(row) => is_candidate(&row),
-        None => false,
-    }
+    matches!(row_in(value), Some(row) if is_candidate(&row))
 }
 
 // Removes a number.
@@ -26,12 +22,7 @@ fn leave(numbers: &mut Vec<u32>, number: u32)
 
 /// Updates the numbers of incomplete READs and WRITEs for one request: whether it was one before
 /// the event, and is one after it.
-pub(crate) fn follow(
-    numbers: &mut Vec<u32>,
-    number: u32,
-    was: bool,
-    is: bool,
-) -> Result<(), AllocError>
+pub(crate) fn follow(numbers: &mut Vec<u32>, number: u32, was: bool, is: bool) -> Added
     ensures { OnOk result (numbers.new.items ≡ followed numbers.old.items number was is) }
 {
     match (was, is) {
@@ -43,7 +34,6 @@ pub(crate) fn follow(
             leave(numbers, number);
             Ok(())
         }
-        (true, true) => Ok(()),
-        (false, false) => Ok(()),
+        _ => Ok(()),
     }
 }

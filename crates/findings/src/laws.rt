@@ -1,11 +1,6 @@
 //! Theorems about the definitions in specs/.
 ghost use Rattle.std.specs.Prelude.{◌≡◌, ℕ, map};
-ghost use Rattle.scenario.specs.declared.event.Event.TheVariants.{Step};
-ghost use Rattle.scenario.specs.declared.setup.Setup.{Setup};
-ghost use Rattle.machine.specs.declared.whole.Machine.{Machine};
-ghost use Rattle.machine.specs.Steps.{refusal};
-ghost use Rattle.machine.specs.Threads.{program_of};
-ghost use Rattle.findings.specs.Conditions.{is_stuck, is_of_ring};
+ghost use Rattle.findings.specs.{Step, Setup, Machine, refusal, program_of, is_stuck, is_of_ring};
 
 /// A thread is stuck exactly if its next step is refused because the submission ring is full or the
 /// completion ring is empty, in a machine whose threads have the programs of the setup.

@@ -1,15 +1,13 @@
 //! Requests that are incomplete at the end of a run.
 ghost use Rattle.std.specs.Prelude.{◌≡◌, ◌++◌, ◌<◌, ◌≤◌, OnOk, IfSome, length, slice_get};
-ghost use Rattle.machine.specs.Whole.{WellFormed};
-ghost use Rattle.findings.specs.Records.{of_left, all_left};
+ghost use Rattle.findings.specs.{WellFormed, of_left, all_left};
 
-use crate::record::add_if;
+use crate::record::{Added, add_if};
 use crate::watching::fault_if;
 use entries::Row;
 use finding_kinds::{Finding, Kind, LeftKind, MOST_ROWS};
 use links_drains::is_unfinished;
 use machine::State;
-use std::alloc::AllocError;
 
 /// Returns a request, or None past the end of the table.
 pub(crate) fn row_at(state: &State, number: u32) -> Option<Row>
@@ -22,22 +20,12 @@ pub(crate) fn row_at(state: &State, number: u32) -> Option<Row>
 }
 
 // Adds a finding if the request is incomplete. `over` says whether the run is over.
-fn add_left(
-    found: &mut Vec<Finding>,
-    moment: u32,
-    over: bool,
-    number: u32,
-    row: &Row,
-) -> Result<(), AllocError>
+fn add_left(found: &mut Vec<Finding>, moment: u32, over: bool, number: u32, row: &Row) -> Added
     ensures { OnOk result (found.new.items ≡
         found.old.items ++ of_left moment over (number, row.now)) }
 {
-    let finding = Finding {
-        moment,
-        kind: Kind::Left(LeftKind::Unfinished(fault_if(over))),
-        subject: number,
-    };
-    add_if(found, is_unfinished(row), finding)
+    let kind = Kind::Left(LeftKind::Unfinished(fault_if(over)));
+    add_if(found, is_unfinished(row), moment, kind, number)
 }
 
 /// Adds a finding for each incomplete request. `over` says whether the run is over.
@@ -46,7 +34,7 @@ pub(crate) fn add_all_left(
     moment: u32,
     over: bool,
     state: &State,
-) -> Result<(), AllocError>
+) -> Added
     ensures { OnOk result (found.new.items ≡
         found.old.items ++ all_left moment over state.now.table) }
 {

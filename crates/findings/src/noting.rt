@@ -1,6 +1,7 @@
 //! Recording the history that the sentences of findings need.
 
 use crate::leftover::row_at;
+use crate::record::Added;
 use crate::transition::Transition;
 use entries::Phase;
 use finding_kinds::{
@@ -10,19 +11,10 @@ use links_drains::{is_guard, is_issued};
 use machine::{Event, Instruction, State};
 use opcodes::Choice;
 use places::{Place, Value};
-use std::alloc::AllocError;
 
 /// Records sq.dropped after the event at a moment, if it has changed.
-pub(crate) fn note_dropped(
-    dropped: &mut Vec<(u32, u32)>,
-    moment: u32,
-    now: u32,
-) -> Result<(), AllocError> {
-    let before = match dropped.last() {
-        Some((_, count)) => *count,
-        None => 0,
-    };
-    if now != before {
+pub(crate) fn note_dropped(dropped: &mut Vec<(u32, u32)>, moment: u32, now: u32) -> Added {
+    if now != dropped.last().map_or(0, |(_, count)| *count) {
         dropped.push((moment, now))?;
     }
     Ok(())
@@ -37,12 +29,7 @@ fn note_phase(times: &mut Times, moment: u32, phase: Phase) {
 }
 
 /// Records the phase of a request after the event at a moment, adding the request if it is new.
-pub(crate) fn note_row(
-    times: &mut Vec<Times>,
-    moment: u32,
-    number: u32,
-    phase: Phase,
-) -> Result<(), AllocError> {
+pub(crate) fn note_row(times: &mut Vec<Times>, moment: u32, number: u32, phase: Phase) -> Added {
     for _row in times.len()..number as usize + 1 {
         times.push(Times {
             queued: moment,
@@ -58,24 +45,14 @@ pub(crate) fn note_row(
 }
 
 /// Records the program counter of the thread that did an event, or None.
-pub(crate) fn note_counter(
-    counters: &mut Vec<Option<u32>>,
-    counter: Option<u64>,
-) -> Result<(), AllocError> {
-    let place = match counter {
-        Some(counter) => u32::try_from(counter).ok(),
-        None => None,
-    };
+pub(crate) fn note_counter(counters: &mut Vec<Option<u32>>, counter: Option<u64>) -> Added {
+    let place = counter.and_then(|counter| u32::try_from(counter).ok());
     counters.push(place)?;
     Ok(())
 }
 
 /// Records a moment if the backlog has become empty at it.
-pub(crate) fn note_emptied(
-    emptied: &mut Vec<u32>,
-    moment: u32,
-    is_emptied: bool,
-) -> Result<(), AllocError> {
+pub(crate) fn note_emptied(emptied: &mut Vec<u32>, moment: u32, is_emptied: bool) -> Added {
     if is_emptied {
         emptied.push(moment)?;
     }
@@ -83,11 +60,7 @@ pub(crate) fn note_emptied(
 }
 
 /// Records the slot whose entry names a descriptor that the event closed, if there is one.
-pub(crate) fn note_slot(
-    slots: &mut Vec<Met>,
-    moment: u32,
-    slot: Option<u32>,
-) -> Result<(), AllocError> {
+pub(crate) fn note_slot(slots: &mut Vec<Met>, moment: u32, slot: Option<u32>) -> Added {
     if let Some(slot) = slot {
         slots.push(Met { moment, slot })?;
     }
@@ -95,12 +68,7 @@ pub(crate) fn note_slot(
 }
 
 // Records the moment of a put into a slot.
-fn note_put(
-    puts: &mut Vec<Vec<u32>>,
-    state: &State,
-    moment: u32,
-    slot: u32,
-) -> Result<(), AllocError> {
+fn note_put(puts: &mut Vec<Vec<u32>>, state: &State, moment: u32, slot: u32) -> Added {
     if state.submissions().entry(slot).is_none() {
         return Ok(());
     }
@@ -115,12 +83,7 @@ fn note_put(
 }
 
 // Records the completion that a thread has reaped.
-fn note_reap(
-    reaps: &mut Vec<Reaped>,
-    state: &State,
-    moment: u32,
-    thread: u32,
-) -> Result<(), AllocError> {
+fn note_reap(reaps: &mut Vec<Reaped>, state: &State, moment: u32, thread: u32) -> Added {
     if let Some(Value::Reaped(Some(completion))) = state.value(Place::Got(thread)) {
         reaps.push(Reaped {
             moment,
@@ -132,12 +95,7 @@ fn note_reap(
 }
 
 // Records the first close of a descriptor of the setup.
-fn note_close(
-    closes: &mut Vec<Closed>,
-    state: &State,
-    moment: u32,
-    fd: i32,
-) -> Result<(), AllocError> {
+fn note_close(closes: &mut Vec<Closed>, state: &State, moment: u32, fd: i32) -> Added {
     let Some(descriptor) = descriptor_number(fd) else {
         return Ok(());
     };
@@ -150,7 +108,7 @@ fn note_close(
 }
 
 // Records what the step of a thread put, reaped or closed.
-fn note_step(at: Transition<'_>, history: &mut History) -> Result<(), AllocError> {
+fn note_step(at: Transition<'_>, history: &mut History) -> Added {
     let Event::Step(thread) = at.event else {
         return Ok(());
     };
@@ -167,15 +125,11 @@ fn slot_at(state: &State, position: u32) -> Option<u32> {
     let ring = state.submissions();
     let place = Place::Array(position & ring.size().wrapping_sub(1));
     let slot = u32::try_from(number_at(state, place)?).ok()?;
-    if ring.entry(slot).is_some() {
-        Some(slot)
-    } else {
-        None
-    }
+    ring.entry(slot).map(|_| slot)
 }
 
 // Records the slots of the entries that an event submitted. Words that name no slot are skipped.
-fn note_origins(at: Transition<'_>, history: &mut History) -> Result<(), AllocError> {
+fn note_origins(at: Transition<'_>, history: &mut History) -> Added {
     let base = at.setup.base;
     let consumed = at.state.submissions().head().wrapping_sub(base);
     for index in history.consumed..consumed {
@@ -187,23 +141,10 @@ fn note_origins(at: Transition<'_>, history: &mut History) -> Result<(), AllocEr
     Ok(())
 }
 
-fn is_issued_in(state: &State, number: u32) -> bool {
-    match row_at(state, number) {
-        Some(row) => is_issued(&row),
-        None => false,
-    }
-}
-
 // Returns whether an issued LINK_TIMEOUT limits the request.
 fn is_limited(state: &State, number: u32) -> bool {
-    let next = match number.checked_add(1) {
-        Some(next) => row_at(state, next),
-        None => None,
-    };
-    match next {
-        Some(row) => is_guard(&row) && is_issued(&row) && row.target == Some(number),
-        None => false,
-    }
+    let next = number.checked_add(1).and_then(|next| row_at(state, next));
+    matches!(next, Some(row) if is_guard(&row) && is_issued(&row) && row.target == Some(number))
 }
 
 // Returns whether the event can have changed which issued requests could complete.
@@ -218,34 +159,28 @@ fn can_change_readiness(at: Transition<'_>) -> bool {
     }
 }
 
-fn remove_completed(limited: &mut Vec<u32>, state: &State) {
-    limited.retain(|number| is_issued_in(state, *number));
-}
-
 // Records since when each of these requests could complete in full.
 fn note_ready(rows: &mut Vec<Times>, limited: &[u32], at: Transition<'_>) {
     for number in limited {
         let event = Event::Finish(*number, Choice::Full);
         let is_ready = at.state.refuses(event).is_none();
         if let Some(times) = rows.get_mut(*number as usize) {
-            times.ready = if is_ready {
-                Some(times.ready.unwrap_or(at.moment))
-            } else {
-                None
-            };
+            times.ready = times.ready.or(Some(at.moment)).filter(|_| is_ready);
         }
     }
 }
 
 // Records since when the requests that issued LINK_TIMEOUTs limit could complete.
-fn note_limited(at: Transition<'_>, history: &mut History) -> Result<(), AllocError> {
+fn note_limited(at: Transition<'_>, history: &mut History) -> Added {
     if let Event::Issue(number) = at.event {
         if is_limited(at.state, number) {
             history.limited.push(number)?;
         }
     }
     if !history.limited.is_empty() && can_change_readiness(at) {
-        remove_completed(&mut history.limited, at.state);
+        history.limited.retain(
+            |number| matches!(row_at(at.state, *number), Some(row) if is_issued(&row)),
+        );
         note_ready(&mut history.rows, &history.limited, at);
     }
     Ok(())
@@ -253,7 +188,7 @@ fn note_limited(at: Transition<'_>, history: &mut History) -> Result<(), AllocEr
 
 /// Records what an event put, reaped, closed and submitted, and which requests could complete after
 /// it.
-pub(crate) fn note_event(at: Transition<'_>, history: &mut History) -> Result<(), AllocError> {
+pub(crate) fn note_event(at: Transition<'_>, history: &mut History) -> Added {
     note_step(at, history)?;
     note_origins(at, history)?;
     note_limited(at, history)

@@ -1,6 +1,5 @@
 //! Sorting findings and removing duplicates.
-ghost use Rattle.findings.specs.Findings.{Rises};
-ghost use Rattle.findings.specs.Records.{SameFindings};
+ghost use Rattle.findings.specs.{Rises, SameFindings};
 
 use finding_kinds::Finding;
 

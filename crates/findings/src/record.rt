@@ -1,10 +1,6 @@
 //! Collecting the findings of one event, group by group of kinds.
-ghost use Rattle.std.specs.Prelude.{◌≡◌, ◌++◌, OnOk};
-ghost use Rattle.std.specs.List.{flat_map};
-ghost use Rattle.std.specs.Option.{option_copied};
-ghost use Rattle.findings.specs.Conditions.{overflows};
-ghost use Rattle.finding_kinds.specs.Programs.{instruction_at};
-ghost use Rattle.findings.specs.Records.{given, noted, of_ended, of_queued, of_row, row_in, of_overflow, of_instruction, of_step, of_canceling, of_cancel, of_candidate, of_number, of_conflicts, of_effect};
+ghost use Rattle.std.specs.Prelude.{◌≡◌, ◌++◌, OnOk, flat_map, option_copied};
+ghost use Rattle.findings.specs.{instruction_at, overflows, given, noted, of_ended, of_queued, of_row, row_in, of_overflow, of_instruction, of_step, of_cancel, of_number, of_conflicts, of_effect};
 
 use crate::canceling::{Cancel, is_of_cancel};
 use crate::completed::Completed;
@@ -23,16 +19,26 @@ use machine::{Event, Instruction, State};
 use places::Value;
 use std::alloc::AllocError;
 
+/// The end of a function that adds to a list: an allocation may fail.
+pub(crate) type Added = Result<(), AllocError>;
+
 // Appends a finding if the test is true.
 pub(crate) fn add_if(
     found: &mut Vec<Finding>,
     test: bool,
-    finding: Finding,
-) -> Result<(), AllocError>
-    ensures { OnOk result (found.new.items ≡ found.old.items ++ given test finding) }
+    moment: u32,
+    kind: Kind,
+    subject: u32,
+) -> Added
+    ensures { OnOk result (found.new.items ≡ found.old.items
+        ++ given test (record { moment = moment; kind = kind; subject = subject })) }
 {
     if test {
-        found.push(finding)?;
+        found.push(Finding {
+            moment,
+            kind,
+            subject,
+        })?;
     }
     Ok(())
 }
@@ -45,7 +51,7 @@ fn add_of_ended(
     before: &Option<Row>,
     number: u32,
     row: &Row,
-) -> Result<(), AllocError>
+) -> Added
     ensures { OnOk result (found.new.items ≡ found.old.items ++ of_ended at.entry.moment
         (noted at.entry.setup.now completed.now.severing.items
         completed.now.canceled.items at.entry.before at.entry.event at.entry.state.now
@@ -55,16 +61,8 @@ fn add_of_ended(
         return Ok(());
     }
     for kind in EndedKind::ALL {
-        let finding = Finding {
-            moment: at.moment,
-            kind: Kind::Ended(kind),
-            subject: number,
-        };
-        add_if(
-            found,
-            ended_test(kind, at, completed, before, number, row),
-            finding,
-        )?;
+        let test = ended_test(kind, at, completed, before, number, row);
+        add_if(found, test, at.moment, Kind::Ended(kind), number)?;
     }
     Ok(())
 }
@@ -76,7 +74,7 @@ fn add_of_queued(
     before: &Option<Row>,
     number: u32,
     row: &Row,
-) -> Result<(), AllocError>
+) -> Added
     ensures { OnOk result (found.new.items ≡ found.old.items ++ of_queued at.entry.moment
         before.now at.entry.state.now.table number row.now) }
 {
@@ -84,16 +82,8 @@ fn add_of_queued(
         return Ok(());
     }
     for kind in QueuedKind::ALL {
-        let finding = Finding {
-            moment: at.moment,
-            kind: Kind::Queued(kind),
-            subject: number,
-        };
-        add_if(
-            found,
-            queued_test(kind, before, at.state, number, row),
-            finding,
-        )?;
+        let test = queued_test(kind, before, at.state, number, row);
+        add_if(found, test, at.moment, Kind::Queued(kind), number)?;
     }
     Ok(())
 }
@@ -106,7 +96,7 @@ pub(crate) fn add_of_row(
     before: &Option<Row>,
     number: u32,
     row: &Row,
-) -> Result<(), AllocError>
+) -> Added
     ensures { OnOk result (found.new.items ≡ found.old.items ++ of_row at.entry.moment
         (noted at.entry.setup.now completed.now.severing.items
         completed.now.canceled.items at.entry.before at.entry.event at.entry.state.now
@@ -126,30 +116,13 @@ pub(crate) fn row_in(value: Option<Value>) -> Option<Row>
     }
 }
 
-// Adds a finding if the backlog was empty before the event and holds completions after it.
-fn add_overflow(
-    found: &mut Vec<Finding>,
-    moment: u32,
-    before: bool,
-    after: bool,
-) -> Result<(), AllocError>
-    ensures { OnOk result (found.new.items ≡ found.old.items ++ of_overflow moment before after) }
-{
-    let finding = Finding {
-        moment,
-        kind: Kind::Overflow,
-        subject: 0,
-    };
-    add_if(found, !before && after, finding)
-}
-
 // Adds the findings about an instruction that a thread did.
 fn add_of_instruction(
     found: &mut Vec<Finding>,
     at: Transition<'_>,
     instruction: &Instruction,
     thread: u32,
-) -> Result<(), AllocError>
+) -> Added
     ensures { OnOk result (found.new.items ≡ found.old.items ++ of_instruction at.entry.moment
         at.entry.before.changes instruction.now at.entry.state.now thread) }
 {
@@ -157,13 +130,8 @@ fn add_of_instruction(
         return Ok(());
     }
     for kind in StepKind::ALL {
-        let finding = Finding {
-            moment: at.moment,
-            kind: Kind::Step(kind),
-            subject: thread,
-        };
         let test = is_of_step(kind, at.before.changes, instruction, at.state, thread);
-        add_if(found, test, finding)?;
+        add_if(found, test, at.moment, Kind::Step(kind), thread)?;
     }
     Ok(())
 }
@@ -173,7 +141,7 @@ fn add_of_step(
     found: &mut Vec<Finding>,
     at: Transition<'_>,
     instruction: Option<&Instruction>,
-) -> Result<(), AllocError>
+) -> Added
     ensures { OnOk result (found.new.items ≡ found.old.items ++ of_step at.entry.moment
         at.entry.before.changes (option_copied instruction.entry) at.entry.event
         at.entry.state.now) }
@@ -187,43 +155,27 @@ fn add_of_step(
 }
 
 // Adds the findings about a completed cancel or removal.
-fn add_of_canceling(
-    found: &mut Vec<Finding>,
-    moment: u32,
-    cancel: &Cancel,
-    state: &State,
-) -> Result<(), AllocError>
-    ensures { OnOk result (found.new.items ≡ found.old.items
-        ++ of_canceling moment cancel.now state.now.table) }
-{
-    for kind in CancelKind::ALL {
-        let finding = Finding {
-            moment,
-            kind: Kind::Cancel(kind),
-            subject: cancel.number,
-        };
-        add_if(found, is_of_cancel(kind, cancel, state), finding)?;
-    }
-    Ok(())
-}
-
 fn add_of_cancel(
     found: &mut Vec<Finding>,
     moment: u32,
     cancel: Option<Cancel>,
     state: &State,
-) -> Result<(), AllocError>
+) -> Added
     ensures { OnOk result (found.new.items ≡
         found.old.items ++ of_cancel moment cancel state.now.table) }
 {
-    match cancel {
-        Some(cancel) => add_of_canceling(found, moment, &cancel, state),
-        None => Ok(()),
+    let Some(done) = cancel else {
+        return Ok(());
+    };
+    for kind in CancelKind::ALL {
+        let test = is_of_cancel(kind, &done, state);
+        add_if(found, test, moment, Kind::Cancel(kind), done.number)?;
     }
+    Ok(())
 }
 
 /// Adds the findings of an event about the rings, the threads, and a cancel or removal.
-pub(crate) fn add_of_event(found: &mut Vec<Finding>, at: Transition<'_>) -> Result<(), AllocError>
+pub(crate) fn add_of_event(found: &mut Vec<Finding>, at: Transition<'_>) -> Added
     ensures { OnOk result (found.new.items ≡ found.old.items ++
         (of_overflow at.entry.moment at.entry.before.overflows (overflows at.entry.state.now)
         ++ (of_step at.entry.moment at.entry.before.changes
@@ -231,47 +183,31 @@ pub(crate) fn add_of_event(found: &mut Vec<Finding>, at: Transition<'_>) -> Resu
         at.entry.event at.entry.state.now
         ++ of_cancel at.entry.moment at.entry.before.cancel at.entry.state.now.table))) }
 {
-    add_overflow(found, at.moment, at.before.overflows, overflows(at.state))?;
+    let spills = !at.before.overflows && overflows(at.state);
+    add_if(found, spills, at.moment, Kind::Overflow, 0)?;
     let instruction = instruction_at(at.setup, at.event, at.before.counter);
     add_of_step(found, at, instruction)?;
     add_of_cancel(found, at.moment, at.before.cancel, at.state)
 }
 
 // Adds the conflicts with one READ or WRITE.
-fn add_of_candidate(
-    found: &mut Vec<Finding>,
-    at: Transition<'_>,
-    effect: &Effect,
-    number: u32,
-    row: &Row,
-) -> Result<(), AllocError>
-    ensures { OnOk result (found.new.items ≡ found.old.items ++ of_candidate at.entry.moment
-        at.entry.setup.now at.entry.state.now effect.now number row.now) }
-{
-    for kind in ConflictKind::ALL {
-        let finding = Finding {
-            moment: at.moment,
-            kind: Kind::Conflict(kind),
-            subject: number,
-        };
-        add_if(found, conflicts(kind, at, effect, number, row), finding)?;
-    }
-    Ok(())
-}
-
 fn add_of_number(
     found: &mut Vec<Finding>,
     at: Transition<'_>,
     effect: &Effect,
     number: u32,
-) -> Result<(), AllocError>
+) -> Added
     ensures { OnOk result (found.new.items ≡ found.old.items ++ of_number at.entry.moment
         at.entry.setup.now at.entry.state.now effect.now number) }
 {
-    match row_at(at.state, number) {
-        Some(row) => add_of_candidate(found, at, effect, number, &row),
-        None => Ok(()),
+    let Some(row) = row_at(at.state, number) else {
+        return Ok(());
+    };
+    for kind in ConflictKind::ALL {
+        let test = conflicts(kind, at, effect, number, &row);
+        add_if(found, test, at.moment, Kind::Conflict(kind), number)?;
     }
+    Ok(())
 }
 
 fn add_of_numbers(
@@ -279,7 +215,7 @@ fn add_of_numbers(
     at: Transition<'_>,
     effect: &Effect,
     numbers: &[u32],
-) -> Result<(), AllocError>
+) -> Added
     ensures { OnOk result (found.new.items ≡ found.old.items
         ++ flat_map (of_number at.entry.moment at.entry.setup.now at.entry.state.now effect.now)
         numbers.now) }
@@ -296,7 +232,7 @@ fn add_of_conflicts(
     at: Transition<'_>,
     effect: &Effect,
     numbers: &[u32],
-) -> Result<(), AllocError>
+) -> Added
     ensures { OnOk result (found.new.items ≡ found.old.items ++ of_conflicts at.entry.moment
         at.entry.setup.now at.entry.state.now effect.now numbers.now) }
 {
@@ -313,7 +249,7 @@ pub(crate) fn add_of_effect(
     at: Transition<'_>,
     effect: &Effect,
     numbers: &[u32],
-) -> Result<(), AllocError>
+) -> Added
     ensures { OnOk result (found.new.items ≡ found.old.items ++ of_effect at.entry.moment
         at.entry.setup.now at.entry.state.now effect.now numbers.now) }
 {

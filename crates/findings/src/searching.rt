@@ -1,19 +1,6 @@
 //! The search for findings, event by event.
-ghost use Rattle.std.specs.Prelude.{◌≡◌, ◌≤◌, ◌++◌, List, length, IfOk, OnOk, IfErr};
-ghost use Rattle.std.specs.List.{flat_map};
-ghost use Rattle.places.specs.View.{NamesOnce};
-ghost use Rattle.scenario.specs.declared.event.Event.{Event};
-ghost use Rattle.machine.specs.Runs.{start, Accepts};
-ghost use Rattle.machine.specs.Whole.{view};
-ghost use Rattle.quiescence.specs.Over.{SaysOver};
-ghost use Rattle.runs.specs.Moments.{IsAt};
-ghost use Rattle.finding_kinds.specs.Programs.{instruction_at};
-ghost use Rattle.findings.specs.Findings.{IsReportOf};
-ghost use Rattle.findings.specs.Conditions.{overflows};
-ghost use Rattle.findings.specs.Conflicts.{done_as};
-ghost use Rattle.findings.specs.Records.{noted_by, of_change, of_overflow, of_step, of_cancel, of_effect, after_notes, all_at_end};
-ghost use Rattle.findings.specs.Watched.{of_lasting};
-ghost use Rattle.findings.specs.Searching.{NotesFacts, HasSearched, Halted};
+ghost use Rattle.std.specs.Prelude.{◌≡◌, ◌≤◌, ◌++◌, List, length, IfOk, OnOk, IfErr, flat_map};
+ghost use Rattle.findings.specs.{IsCopy, NamesOnce, Event, start, Accepts, view, SaysOver, IsAt, instruction_at, IsReportOf, overflows, done_as, noted_by, of_change, of_overflow, of_step, of_cancel, of_effect, after_notes, all_at_end, of_lasting, NotesFacts, HasSearched, Halted};
 
 use crate::changes::look_at_record;
 use crate::conditions::{Before, overflows, slot_met};
@@ -21,7 +8,7 @@ use crate::effect::done_as;
 use crate::leftover::add_all_left;
 use crate::noting::{note_counter, note_dropped, note_emptied, note_event, note_slot};
 use crate::ordering::in_order;
-use crate::record::{add_of_effect, add_of_event};
+use crate::record::{Added, add_of_effect, add_of_event};
 use crate::suspects::{Durability, follow_files};
 use crate::transition::Transition;
 use crate::unsynced::add_all_unsynced;
@@ -55,24 +42,8 @@ pub struct Found {
     pub history: History,
 }
 
-// Adds the conflicts of an event with the incomplete READs and WRITEs.
-fn add_effects(
-    at: Transition<'_>,
-    found: &mut Vec<Finding>,
-    numbers: &[u32],
-) -> Result<(), AllocError>
-    ensures { OnOk result (found.new.items ≡ found.old.items
-        ++ of_effect at.entry.moment at.entry.setup.now at.entry.state.now
-        (done_as at.entry.event
-        (instruction_at at.entry.setup.now at.entry.event at.entry.before.counter)
-        at.entry.state.now) numbers.now) }
-{
-    let effect = done_as(at.setup, at.before, at.event, at.state);
-    add_of_effect(found, at, &effect, numbers)
-}
-
 // Records the history of an event that sentences need, if the search keeps it.
-fn note(at: Transition<'_>, history: &mut History) -> Result<(), AllocError> {
+fn note(at: Transition<'_>, history: &mut History) -> Added {
     if !at.keeps_history {
         return Ok(());
     }
@@ -91,7 +62,7 @@ fn note(at: Transition<'_>, history: &mut History) -> Result<(), AllocError> {
 }
 
 // Adds all findings of an event, and records its history.
-fn look(at: Transition<'_>, search: &mut Search) -> Result<(), AllocError>
+fn look(at: Transition<'_>, search: &mut Search) -> Added
     ensures added { OnOk result (search.new.found.items
         ≡ ((search.old.found.items
         ++ flat_map (of_change at.entry.moment (noted_by at.entry.setup.now
@@ -116,7 +87,8 @@ fn look(at: Transition<'_>, search: &mut Search) -> Result<(), AllocError>
     let rows = &mut search.history.rows;
     look_at_record(&mut search.found, &mut search.numbers, rows, at)?;
     add_of_event(&mut search.found, at)?;
-    add_effects(at, &mut search.found, &search.numbers)
+    let effect = done_as(at.setup, at.before, at.event, at.state);
+    add_of_effect(&mut search.found, at, &effect, &search.numbers)
 }
 
 // Returns whether the run is over: nothing more can happen but idle events.
@@ -139,7 +111,7 @@ fn add_end(
     setup: &Setup,
     moment: u32,
     state: &State,
-) -> Result<(), AllocError>
+) -> Added
     ensures { OnOk result (found.new.items ≡
         (found.old.items ++ flat_map (of_lasting over) watches.now)
         ++ all_at_end setup.now moment over state.now) }
@@ -150,12 +122,8 @@ fn add_end(
 }
 
 impl Search {
-    fn start(
-        alloc: Global,
-        setup: &Setup,
-        state: &State,
-        keeps_history: bool,
-    ) -> Result<Search, AllocError>
+    /// Returns a search that has seen no event of a run, from the state at the run's start.
+    pub fn new(alloc: Global, setup: &Setup, state: &State) -> Result<Search, AllocError>
         requires starts { state.now ≡ start setup.now }
         ensures { IfOk result (λ search. (es : List Event) → length es ≤ 1048576 →
             HasSearched setup.now es 0 search.found.items search.numbers.items
@@ -169,20 +137,9 @@ impl Search {
             numbers: Vec::new(alloc),
             watches,
             files: Durability::new(alloc, setup)?,
-            keeps_history,
+            keeps_history: true,
             history: History::new(alloc),
         })
-    }
-
-    /// Returns a search that has seen no event of a run, from the state at the run's start.
-    pub fn new(alloc: Global, setup: &Setup, state: &State) -> Result<Search, AllocError>
-        requires starts { state.now ≡ start setup.now }
-        ensures { IfOk result (λ search. (es : List Event) → length es ≤ 1048576 →
-            HasSearched setup.now es 0 search.found.items search.numbers.items
-            search.watches.items search.files.writes.items search.files.suspects.items
-            search.files.retried.items) }
-    {
-        Search::start(alloc, setup, state, true)
     }
 
     /// Returns such a search that leaves out the history, which only sentences need. It finds the
@@ -198,7 +155,26 @@ impl Search {
             search.watches.items search.files.writes.items search.files.suspects.items
             search.files.retried.items) }
     {
-        Search::start(alloc, setup, state, false)
+        let mut search = Search::new(alloc, setup, state)?;
+        search.keeps_history = false;
+        Ok(search)
+    }
+
+    /// Copies a search, without its history.
+    pub fn copy(&self, alloc: Global) -> Result<Search, AllocError>
+        ensures found { IfOk result (λ search. search.found.items ≡ self.now.found.items) }
+        ensures numbers { IfOk result (λ search. search.numbers.items ≡ self.now.numbers.items) }
+        ensures watches { IfOk result (λ search. search.watches.items ≡ self.now.watches.items) }
+        ensures files { IfOk result (λ search. IsCopy self.now.files search.files) }
+    {
+        Ok(Search {
+            found: self.found.as_slice().to_vec(alloc)?,
+            numbers: self.numbers.as_slice().to_vec(alloc)?,
+            watches: self.watches.as_slice().to_vec(alloc)?,
+            files: self.files.copy(alloc)?,
+            keeps_history: false,
+            history: History::new(alloc),
+        })
     }
 
     /// Returns the findings of a run of which the search has seen all events, given the state at
@@ -246,7 +222,7 @@ impl Observer for Search {
         Ok(Before::new(at.setup, at.state, at.event))
     }
 
-    fn after(&mut self, at: Observed<'_>, past: &Record, note: Before) -> Result<(), AllocError> {
+    fn after(&mut self, at: Observed<'_>, past: &Record, note: Before) -> Added {
         let moment = at.index as u32;
         let _clock = at.state.clock();
         let done = Transition {

@@ -1,14 +1,11 @@
 //! Bytes that an FSYNC failed to make durable, and FSYNCs that are retried after a failure
 //! (fsync(2)).
-ghost use Rattle.std.specs.Prelude.{◌≡◌, ℕ, ◌<◌, ◌++◌, ◌&&◌, ◌||◌, [], true, false, not, length, IfOk, OnOk, MatchBool};
-ghost use Rattle.std.specs.Option.{option_to_list};
-ghost use Rattle.bit_sets.specs.Sets.{has};
-ghost use Rattle.findings.specs.Durability.{is_volatile_at, is_within, moves, completed_by};
-ghost use Rattle.findings.specs.Suspects.{is_marked, is_fsync_of, SaysMarked, AddsRetried, Follows};
+ghost use Rattle.std.specs.Prelude.{◌≡◌, ℕ, ◌<◌, ◌++◌, ◌&&◌, ◌||◌, [], true, false, not, length, IfOk, OnOk, MatchBool, option_to_list};
+ghost use Rattle.findings.specs.{IsCopy, has, is_volatile_at, is_within, moves, completed_by, is_marked, is_fsync_of, SaysMarked, AddsRetried, Follows};
 
 use crate::effect::Effect;
 use crate::failures::Failures;
-use crate::record::add_if;
+use crate::record::{Added, add_if};
 use crate::transition::Transition;
 use crate::writes::{Fsync, Written, completed_by, fsync_of, mark_volatile, written_of};
 use bit_sets::BitSet;
@@ -70,6 +67,28 @@ impl Durability {
             failures: no_failures(alloc, objects)?,
         })
     }
+
+    /// Copies it, without the failures, which only sentences need.
+    pub(crate) fn copy(&self, alloc: Global) -> Result<Durability, AllocError>
+        ensures { IfOk result (IsCopy self.now) }
+    {
+        Ok(Durability {
+            writes: self.writes.as_slice().to_vec(alloc)?,
+            suspects: copied_sets(alloc, &self.suspects)?,
+            retried: self.retried.as_slice().to_vec(alloc)?,
+            failures: Vec::new(alloc),
+        })
+    }
+}
+
+fn copied_sets(alloc: Global, sets: &[BitSet]) -> Result<Vec<BitSet>, AllocError>
+    ensures { IfOk result (λ copied. copied.items ≡ sets.now) }
+{
+    let mut copied = Vec::new(alloc);
+    for set in sets {
+        copied.push(set.copy(alloc)?)?;
+    }
+    Ok(copied)
 }
 
 // ---- FSYNCs that are retried
@@ -78,20 +97,14 @@ fn has_number(bytes: &BitSet) -> bool
     ensures { MatchBool result ((k : ℕ) × (has bytes.now k ≡ true))
         ((k : ℕ) → has bytes.now k ≡ false) }
 {
-    match bytes.next(0) {
-        Some(_) => true,
-        None => false,
-    }
+    matches!(bytes.next(0), Some(_) if true)
 }
 
 // Returns whether a file has a suspect byte.
 fn has_suspect(suspects: &[BitSet], file: u32) -> bool
     ensures { SaysMarked result suspects.now file }
 {
-    match suspects.get(file as usize) {
-        Some(bytes) => has_number(bytes),
-        None => false,
-    }
+    matches!(suspects.get(file as usize), Some(bytes) if has_number(bytes))
 }
 
 // Adds a finding if the FSYNC, which completed without error, syncs a file with suspect bytes.
@@ -100,20 +113,15 @@ fn add_retried(
     moment: u32,
     fsync: Option<Fsync>,
     suspects: &[BitSet],
-) -> Result<(), AllocError>
+) -> Added
     ensures { OnOk result
         (AddsRetried moment fsync suspects.now retried.old.items retried.new.items) }
 {
     let Some(fsync) = fsync else {
         return Ok(());
     };
-    let finding = Finding {
-        moment,
-        kind: Kind::FsyncRetried,
-        subject: fsync.row,
-    };
-    add_if(retried, has_suspect(suspects, fsync.file), finding)?;
-    Ok(())
+    let test = has_suspect(suspects, fsync.file);
+    add_if(retried, test, moment, Kind::FsyncRetried, fsync.row)
 }
 
 // Records the failures before the FSYNC, if its file has suspect bytes.
@@ -122,7 +130,7 @@ fn note_retry(
     moment: u32,
     fsync: Option<Fsync>,
     failures: &[Failures],
-) -> Result<(), AllocError> {
+) -> Added {
     let Some(fsync) = fsync else {
         return Ok(());
     };
@@ -137,7 +145,7 @@ fn note_retry(
 
 // ---- WRITEs
 
-fn add_written(writes: &mut Vec<Written>, written: Option<Written>) -> Result<(), AllocError>
+fn add_written(writes: &mut Vec<Written>, written: Option<Written>) -> Added
     ensures { OnOk result (writes.new.items ≡ writes.old.items ++ option_to_list written) }
 {
     if let Some(written) = written {
@@ -194,7 +202,7 @@ fn note_failure(
     at: Transition<'_>,
     fsync: Option<Fsync>,
     suspects: &[BitSet],
-) -> Result<(), AllocError> {
+) -> Added {
     let Some(fsync) = fsync else {
         return Ok(());
     };
@@ -209,11 +217,7 @@ fn note_failure(
 }
 
 // Adds the bytes of the file that are not durable to the suspect bytes.
-fn suspect_failed(
-    suspects: &mut Vec<BitSet>,
-    state: &State,
-    fsync: Option<Fsync>,
-) -> Result<(), AllocError>
+fn suspect_failed(suspects: &mut Vec<BitSet>, state: &State, fsync: Option<Fsync>) -> Added
     ensures count { OnOk result (length suspects.new.items ≡ length suspects.old.items) }
     ensures marks { OnOk result ((o k : ℕ) → o < length suspects.old.items →
         is_marked suspects.new.items o k ≡ (is_marked suspects.old.items o k
@@ -237,7 +241,7 @@ fn follow_effect(
     effect: &Effect,
     files: &mut Durability,
     retries: &mut Vec<Retry>,
-) -> Result<(), AllocError>
+) -> Added
     ensures { OnOk result (Follows at.entry.setup.now at.entry.moment at.entry.state.now effect.now
         files.old.writes.items files.new.writes.items files.old.suspects.items
         files.new.suspects.items files.old.retried.items files.new.retried.items) }
@@ -259,7 +263,7 @@ pub(crate) fn follow_files(
     at: Transition<'_>,
     files: &mut Durability,
     retries: &mut Vec<Retry>,
-) -> Result<(), AllocError>
+) -> Added
     ensures { OnOk result (Follows at.entry.setup.now at.entry.moment at.entry.state.now
         (completed_by at.entry.event at.entry.state.now)
         files.old.writes.items files.new.writes.items files.old.suspects.items

@@ -1,20 +1,16 @@
 //! Timespecs that an event overwrites before the kernel reads them (io_uring_enter(2)).
-ghost use Rattle.std.specs.Prelude.{◌≡◌, ◌≤◌, ◌++◌, false, slice_get, drop, OnOk};
-ghost use Rattle.std.specs.List.{flat_map};
-ghost use Rattle.std.specs.Option.{option_map_or};
-ghost use Rattle.ring_words.specs.Rings.{waiting, sub_list};
-ghost use Rattle.findings.specs.Timespecs.{read_into, written_by, has_timespec_in, is_over_slot, of_index, of_timespecs};
+ghost use Rattle.std.specs.Prelude.{◌≡◌, ◌≤◌, ◌++◌, drop, OnOk, flat_map};
+ghost use Rattle.findings.specs.{waiting, sub_list, read_into, written_by, has_timespec_in, is_over_slot, of_index, of_timespecs};
 
 use crate::conflicts::{meet, moved};
 use crate::effect::Effect;
-use crate::record::add_if;
+use crate::record::{Added, add_if};
 use crate::uses::LOOKED_AT;
 use entries::{Row, Sqe};
 use finding_kinds::{Finding, Kind};
 use machine::State;
 use opcodes::{Op, is_timer};
 use ring_words::SubRing;
-use std::alloc::AllocError;
 
 /// The size of a timespec: seconds and nanoseconds, 8 bytes each (timespec(3)).
 const TIMESPEC_BYTES: u64 = 16;
@@ -50,10 +46,7 @@ fn has_timespec_in(range: (u64, u64), entry: &Sqe) -> bool
 fn is_over_slot(ring: &SubRing, range: (u64, u64), slot: u32) -> bool
     ensures { result ≡ is_over_slot ring.now.slots range slot }
 {
-    match ring.entry(slot) {
-        Some(entry) => has_timespec_in(range, &entry),
-        None => false,
-    }
+    matches!(ring.entry(slot), Some(entry) if has_timespec_in(range, &entry))
 }
 
 // Adds the findings about the waiting indexes, after skipping some.
@@ -63,19 +56,15 @@ fn add_of_indexes(
     ring: &SubRing,
     range: (u64, u64),
     passed: u32,
-) -> Result<(), AllocError>
+) -> Added
     requires { passed ≤ waiting ring.now.head ring.now.tail }
     ensures { OnOk result (found.new.items ≡ found.old.items
         ++ flat_map (of_index moment ring.now.slots range) (drop passed (sub_list ring.now))) }
 {
     for place in 0..ring.waiting() - passed {
         let slot = ring.word(passed + place);
-        let finding = Finding {
-            moment,
-            kind: Kind::TimespecInUse,
-            subject: slot,
-        };
-        add_if(found, is_over_slot(ring, range, slot), finding)?;
+        let test = is_over_slot(ring, range, slot);
+        add_if(found, test, moment, Kind::TimespecInUse, slot)?;
     }
     Ok(())
 }
@@ -87,7 +76,7 @@ pub(crate) fn add_of_timespecs(
     moment: u32,
     state: &State,
     effect: &Effect,
-) -> Result<(), AllocError>
+) -> Added
     ensures { OnOk result (found.new.items
         ≡ found.old.items ++ of_timespecs moment state.now effect.now) }
 {

@@ -1,8 +1,6 @@
 //! Requests with the same user_data, whose completions can't be told apart.
 ghost use Rattle.std.specs.Prelude.{◌≡◌, ◌==◌, false, slice_get};
-ghost use Rattle.std.specs.Option.{option_map_or};
-ghost use Rattle.entries.specs.declared.row.Row.{Row};
-ghost use Rattle.findings.specs.Endings.{has_twin};
+ghost use Rattle.findings.specs.{option_map_or, Row, has_twin};
 
 use crate::leftover::row_at;
 use entries::Row;
@@ -13,10 +11,7 @@ fn has_user_data(state: &State, number: u32, user_data: u64) -> bool
     ensures { result ≡ option_map_or (λ (row : Row). row.entry.user_data == user_data)
         (slice_get state.now.table number) false }
 {
-    match row_at(state, number) {
-        Some(row) => row.entry.user_data == user_data,
-        None => false,
-    }
+    matches!(row_at(state, number), Some(row) if row.entry.user_data == user_data)
 }
 
 /// Returns whether one of the 32 requests before this one is incomplete and has its user_data.

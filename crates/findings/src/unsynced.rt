@@ -1,15 +1,10 @@
 //! Files with written bytes that are not durable at the end of a run (fsync(2)).
 ghost use Rattle.std.specs.Prelude.{◌≡◌, ℕ, ◌++◌, ◌<◌, ◌≤◌, Some, true, false, OnOk, MatchBool};
-ghost use Rattle.places.specs.declared.place.Place.TheVariants.{FileByte, DurableByte};
-ghost use Rattle.machine.specs.Whole.{view};
-ghost use Rattle.findings.specs.AtEnd.{fault_if, syncs, has_fsync};
-ghost use Rattle.findings.specs.Conditions.{has_unsynced};
-ghost use Rattle.findings.specs.Conflicts.{file_of, are_one};
-ghost use Rattle.findings.specs.Records.{of_object, all_unsynced};
-ghost use Rattle.finding_kinds.specs.Values.{byte_in, differ};
+ghost use Rattle.findings.specs.{FileByte, DurableByte, view, byte_in, differ, fault_if, syncs, has_fsync, has_unsynced, file_of, of_object, all_unsynced};
 
 use crate::files::file_of;
 use crate::leftover::row_at;
+use crate::record::{Added, add_if};
 use crate::watching::fault_if;
 use entries::Row;
 use finding_kinds::{Finding, Kind, LeftKind, MOST_ROWS, differs_at, number_at};
@@ -54,13 +49,8 @@ fn has_unsynced(state: &State, object: u32) -> bool
 fn syncs(setup: &Setup, object: u32, row: &Row) -> bool
     ensures { result ≡ syncs setup.now object row.now }
 {
-    if row.entry.opcode != Op::Fsync as u8 {
-        return false;
-    }
-    match file_of(setup, row.entry.fd) {
-        Some(file) => file == object,
-        None => false,
-    }
+    row.entry.opcode == Op::Fsync as u8
+        && matches!(file_of(setup, row.entry.fd), Some(file) if file == object)
 }
 
 // Returns whether an FSYNC of the file was submitted.
@@ -88,7 +78,7 @@ fn add_unsynced(
     moment: u32,
     state: &State,
     object: u32,
-) -> Result<(), AllocError>
+) -> Added
     ensures { OnOk result (found.new.items ≡
         found.old.items ++ of_object setup.now moment state.now object) }
 {
@@ -96,12 +86,8 @@ fn add_unsynced(
         return Ok(());
     }
     let verdict = fault_if(has_fsync(setup, state, object));
-    found.push(Finding {
-        moment,
-        kind: Kind::Left(LeftKind::NotDurable(verdict)),
-        subject: object,
-    })?;
-    Ok(())
+    let kind = Kind::Left(LeftKind::NotDurable(verdict));
+    add_if(found, true, moment, kind, object)
 }
 
 /// Adds a finding for each file that isn't durable.
@@ -110,7 +96,7 @@ pub(crate) fn add_all_unsynced(
     setup: &Setup,
     moment: u32,
     state: &State,
-) -> Result<(), AllocError>
+) -> Added
     ensures { OnOk result (found.new.items ≡
         found.old.items ++ all_unsynced setup.now moment state.now) }
 {

@@ -1,11 +1,6 @@
 //! Findings about puts and closes while an entry or request still uses the slot or descriptor.
-ghost use Rattle.std.specs.Prelude.{◌≡◌, ◌≤◌, false, is_some, slice_get, drop};
-ghost use Rattle.std.specs.Option.{option_copied, option_map_or};
-ghost use Rattle.std.specs.List.{list_any};
-ghost use Rattle.ring_words.specs.Rings.{waiting, sub_list};
-ghost use Rattle.links_drains.specs.Holding.{is_number};
-ghost use Rattle.machine.specs.Steps.{number_in};
-ghost use Rattle.findings.specs.Uses.{changes_slot, changes_at, names_descriptor, is_sought, is_pushed, is_pushed_last, is_user, is_named, is_held};
+ghost use Rattle.std.specs.Prelude.{◌≡◌, ◌≤◌, false, is_some, slice_get, drop, option_copied};
+ghost use Rattle.findings.specs.{option_map_or, list_any, waiting, sub_list, is_number, number_in, changes_slot, changes_at, names_descriptor, is_sought, is_pushed, is_pushed_last, is_user, is_named, is_held};
 
 use crate::leftover::row_at;
 use entries::{Phase, Row, Sqe};
@@ -52,21 +47,16 @@ fn differs(state: &State, slot: u32, entry: Sqe) -> bool
 pub(crate) fn changes_at(state: &State, instruction: Option<&Instruction>) -> bool
     ensures { result ≡ changes_at state.now (option_copied instruction.entry) }
 {
-    match instruction {
-        Some(Instruction::Put(slot, entry)) => differs(state, *slot, *entry),
-        _ => false,
-    }
+    matches!(instruction, Some(Instruction::Put(slot, entry)) if differs(state, *slot, *entry))
 }
 
 // ---- descriptors
 
-fn is_number(number: Option<u32>, fd: u32) -> bool
+/// Returns whether an optional number is this one.
+pub(crate) fn is_number(number: Option<u32>, fd: u32) -> bool
     ensures { result ≡ is_number number fd }
 {
-    match number {
-        Some(other) => other == fd,
-        None => false,
-    }
+    matches!(number, Some(other) if other == fd)
 }
 
 fn names_descriptor(fd: u32, entry: &Sqe) -> bool
@@ -77,21 +67,14 @@ fn names_descriptor(fd: u32, entry: &Sqe) -> bool
 
 // ---- searching the submission ring
 
-fn slot_names(ring: &SubRing, fd: u32, slot: u32) -> bool
-    ensures { result ≡ option_map_or (names_descriptor fd) (slice_get ring.now.slots slot) false }
-{
-    match ring.entry(slot) {
-        Some(entry) => names_descriptor(fd, &entry),
-        None => false,
-    }
-}
-
 fn is_sought(ring: &SubRing, sought: Sought, word: u32) -> bool
     ensures { result ≡ is_sought ring.now.slots sought word }
 {
     match sought {
         Sought::Named(slot) => word == slot,
-        Sought::Naming(fd) => slot_names(ring, fd, word),
+        Sought::Naming(fd) => {
+            matches!(ring.entry(word), Some(entry) if names_descriptor(fd, &entry))
+        }
     }
 }
 
@@ -142,10 +125,7 @@ fn is_user_at(state: &State, usage: Usage, fd: u32, number: u32) -> bool
     ensures { result
         ≡ option_map_or (is_user usage fd) (slice_get state.now.table number) false }
 {
-    match row_at(state, number) {
-        Some(row) => is_user(usage, fd, &row),
-        None => false,
-    }
+    matches!(row_at(state, number), Some(row) if is_user(usage, fd, &row))
 }
 
 // Returns whether some request does. Completed requests never do, so they are skipped.
@@ -167,21 +147,17 @@ fn has_user(state: &State, usage: Usage, fd: u32) -> bool
 pub(crate) fn is_named(state: &State, fd: i32) -> bool
     ensures { result ≡ option_map_or (is_named state.now) (number_in fd) false }
 {
-    match descriptor_number(fd) {
-        Some(number) => {
-            has_user(state, Usage::Names, number)
+    matches!(
+        descriptor_number(fd),
+        Some(number)
+            if has_user(state, Usage::Names, number)
                 || first_pushed(state, Sought::Naming(number)).is_some()
-        }
-        None => false,
-    }
+    )
 }
 
 /// Returns whether an issued request holds the descriptor.
 pub(crate) fn is_held(state: &State, fd: i32) -> bool
     ensures { result ≡ option_map_or (is_held state.now) (number_in fd) false }
 {
-    match descriptor_number(fd) {
-        Some(number) => has_user(state, Usage::Holds, number),
-        None => false,
-    }
+    matches!(descriptor_number(fd), Some(number) if has_user(state, Usage::Holds, number))
 }

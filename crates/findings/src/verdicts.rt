@@ -1,16 +1,12 @@
 //! Verdicts that the end of a run decides: whether a WRITE is lost (fsync(2)).
 ghost use Rattle.std.specs.Prelude.{◌≡◌, ℕ, ◌+◌, ◌<◌, ◌==◌, ◌&&◌, map, length, IfOk, OnOk};
-ghost use Rattle.std.specs.List.{list_any};
-ghost use Rattle.bit_sets.specs.Sets.{has};
-ghost use Rattle.findings.specs.Durability.{is_volatile_at, has_byte, has_byte_of};
-ghost use Rattle.findings.specs.Findings.{verdict_of, judged_kind};
-ghost use Rattle.findings.specs.Records.{judged};
-ghost use Rattle.findings.specs.Suspects.{is_marked, is_early, has_early, JudgesBy, Judges};
-ghost use Rattle.findings.specs.Watched.{numbers_below};
+ghost use Rattle.findings.specs.{list_any, has, is_volatile_at, has_byte, has_byte_of, judged_kind, judged, is_marked, is_early, has_early, JudgesBy, Judges, numbers_below};
 
+use crate::record::Added;
+use crate::watching::fault_if;
 use crate::writes::{Written, mark_volatile};
 use bit_sets::BitSet;
-use finding_kinds::{ConflictKind, Finding, Kind, Verdict};
+use finding_kinds::{ConflictKind, Finding, Kind};
 use machine::{Setup, State};
 use std::alloc::{AllocError, Global};
 
@@ -51,32 +47,13 @@ fn has_byte(sets: &[BitSet], written: &Written) -> bool
     }
 }
 
-fn is_lost_by(sets: &[BitSet], written: &Written, row: u32) -> bool
-    ensures { result ≡ ((written.now.row == row) && has_byte (is_marked sets.now) written.now) }
-{
-    written.row == row && has_byte(sets, written)
-}
-
 // Returns whether a request is one of these WRITEs, and moved such a byte.
 fn has_byte_of(sets: &[BitSet], writes: &[Written], row: u32) -> bool
     ensures { result ≡ has_byte_of (is_marked sets.now) writes.now row }
 {
-    for written in writes {
-        if is_lost_by(sets, written, row) {
-            return true;
-        }
-    }
-    false
-}
-
-fn verdict_of(is_fault: bool) -> Verdict
-    ensures { result ≡ verdict_of is_fault }
-{
-    if is_fault {
-        Verdict::Fault
-    } else {
-        Verdict::Note
-    }
+    writes
+        .iter()
+        .any(|written| written.row == row && has_byte(sets, written))
 }
 
 // Returns the kind of a finding, given the bytes that are not durable at the end.
@@ -85,7 +62,7 @@ fn judged_kind(sets: &[BitSet], writes: &[Written], kind: Kind, row: u32) -> Kin
 {
     match kind {
         Kind::Conflict(ConflictKind::FsyncEarly(_)) => Kind::Conflict(ConflictKind::FsyncEarly(
-            verdict_of(has_byte_of(sets, writes, row)),
+            fault_if(has_byte_of(sets, writes, row)),
         )),
         _ => kind,
     }
@@ -112,31 +89,18 @@ fn judge_all(found: &mut [Finding], sets: &[BitSet], writes: &[Written])
 fn is_early(kind: Kind) -> bool
     ensures { result ≡ is_early kind }
 {
-    match kind {
-        Kind::Conflict(ConflictKind::FsyncEarly(_)) => true,
-        _ => false,
-    }
+    matches!(kind, Kind::Conflict(ConflictKind::FsyncEarly(_)))
 }
 
 // Returns whether the end of the run decides the verdict of some finding.
 fn has_early(found: &[Finding]) -> bool
     ensures { result ≡ has_early found.now }
 {
-    for finding in found {
-        if is_early(finding.kind) {
-            return true;
-        }
-    }
-    false
+    found.iter().any(|finding| is_early(finding.kind))
 }
 
 // Gives each finding its verdict.
-fn judge_by(
-    found: &mut Vec<Finding>,
-    setup: &Setup,
-    state: &State,
-    writes: &[Written],
-) -> Result<(), AllocError>
+fn judge_by(found: &mut Vec<Finding>, setup: &Setup, state: &State, writes: &[Written]) -> Added
     ensures { OnOk result
         (JudgesBy setup.now state.now writes.now found.old.items found.new.items) }
 {
@@ -152,7 +116,7 @@ pub(crate) fn judge(
     setup: &Setup,
     state: &State,
     writes: &[Written],
-) -> Result<(), AllocError>
+) -> Added
     ensures { OnOk result
         (Judges setup.now state.now writes.now found.old.items found.new.items) }
 {

@@ -1,11 +1,9 @@
 //! Conditions that are findings if they last to the end, with the moment since when each holds.
-ghost use Rattle.std.specs.Prelude.{◌≡◌, ◌++◌, map, IfOk, OnOk};
-ghost use Rattle.std.specs.List.{flat_map};
-ghost use Rattle.scenario.specs.declared.setup.Setup.{Setup};
-ghost use Rattle.findings.specs.AtEnd.{fault_if, reported_as};
-ghost use Rattle.findings.specs.Watched.{next_of, moved_by, next_after, AreNext, continued, advanced, of_rings, watched, fresh, numbers_below, of_kind, of_lasting};
+ghost use Rattle.std.specs.Prelude.{◌≡◌, ◌++◌, map, IfOk, OnOk, flat_map};
+ghost use Rattle.findings.specs.{Setup, fault_if, reported_as, next_of, moved_by, next_after, AreNext, continued, advanced, of_rings, watched, fresh, numbers_below, of_lasting};
 
 use crate::conditions::{Condition, Next, condition_holds, next_of};
+use crate::record::{Added, add_if};
 use finding_kinds::{Finding, Kind, LastingKind, Verdict};
 use machine::{Event, Setup, State};
 use std::alloc::{AllocError, Global};
@@ -24,12 +22,10 @@ pub struct Watch {
 fn continued(holds: bool, since: Option<u32>, moment: u32) -> Option<u32>
     ensures { result ≡ continued holds since moment }
 {
-    if !holds {
-        return None;
-    }
-    match since {
-        Some(began) => Some(began),
-        None => Some(moment),
+    match (holds, since) {
+        (true, Some(began)) => Some(began),
+        (true, None) => Some(moment),
+        (false, _) => None,
     }
 }
 
@@ -127,11 +123,7 @@ fn watches_of_rings(alloc: Global) -> Result<Vec<Watch>, AllocError>
 }
 
 // Adds a condition of each thread.
-fn add_of_threads(
-    list: &mut Vec<Watch>,
-    condition: Condition,
-    threads: u32,
-) -> Result<(), AllocError>
+fn add_of_threads(list: &mut Vec<Watch>, condition: Condition, threads: u32) -> Added
     ensures { OnOk result (list.new.items ≡
         list.old.items ++ map (fresh condition) (numbers_below threads)) }
 {
@@ -176,48 +168,22 @@ fn reported_as(condition: Condition, over: bool) -> Option<LastingKind>
     }
 }
 
-// Adds a finding about a condition that has held since a moment, if it has a kind.
-fn add_of_kind(
-    found: &mut Vec<Finding>,
-    subject: u32,
-    moment: u32,
-    kind: Option<LastingKind>,
-) -> Result<(), AllocError>
-    ensures { OnOk result (found.new.items ≡ found.old.items ++ of_kind subject moment kind) }
-{
-    match kind {
-        Some(kind) => {
-            found.push(Finding {
-                moment,
-                kind: Kind::Lasting(kind),
-                subject,
-            })?;
-            Ok(())
-        }
-        None => Ok(()),
-    }
-}
-
 // Adds a finding if the condition holds and is reported.
-fn add_lasting(found: &mut Vec<Finding>, over: bool, watch: &Watch) -> Result<(), AllocError>
+fn add_lasting(found: &mut Vec<Finding>, over: bool, watch: &Watch) -> Added
     ensures { OnOk result (found.new.items ≡ found.old.items ++ of_lasting over watch.now) }
 {
-    match watch.since {
-        Some(moment) => {
-            let kind = reported_as(watch.condition, over);
-            add_of_kind(found, watch.subject, moment, kind)
-        }
+    let Some(moment) = watch.since else {
+        return Ok(());
+    };
+    match reported_as(watch.condition, over) {
+        Some(kind) => add_if(found, true, moment, Kind::Lasting(kind), watch.subject),
         None => Ok(()),
     }
 }
 
 /// Adds a finding for each condition that holds and is reported. `over` says whether the run is
 /// over at its end.
-pub(crate) fn add_all_lasting(
-    found: &mut Vec<Finding>,
-    over: bool,
-    watches: &[Watch],
-) -> Result<(), AllocError>
+pub(crate) fn add_all_lasting(found: &mut Vec<Finding>, over: bool, watches: &[Watch]) -> Added
     ensures { OnOk result (found.new.items ≡
         found.old.items ++ flat_map (of_lasting over) watches.now) }
 {

@@ -1,22 +1,18 @@
 //! Bytes of files that are not durable, and the WRITEs and FSYNCs that events complete (write(2),
 //! fsync(2)).
 ghost use Rattle.std.specs.Prelude.{◌≡◌, ℕ, ◌≤◌, ◌&&◌, ◌||◌, nat_lt, nat_le, OnOk};
-ghost use Rattle.bit_sets.specs.Sets.{has};
-ghost use Rattle.places.specs.declared.place.Place.TheVariants.{FileByte, DurableByte};
-ghost use Rattle.machine.specs.Whole.{view};
-ghost use Rattle.finding_kinds.specs.Values.{byte_in, differ};
-ghost use Rattle.findings.specs.Durability.{is_volatile_at, completed_by, written_in, written_of, has_ended_with, fsync_in, fsync_of};
+ghost use Rattle.findings.specs.{has, FileByte, DurableByte, view, byte_in, differ, is_volatile_at, completed_by, written_in, written_of, has_ended_with, fsync_in, fsync_of};
 
 use crate::conflicts::{begins, moved};
 use crate::effect::{Effect, finished_in};
 use crate::files::file_of;
+use crate::record::Added;
 use bit_sets::BitSet;
 use entries::{Phase, Row};
 use finding_kinds::{differs_at, number_at};
 use machine::{Event, Setup, State};
 use opcodes::Op;
 use places::Place;
-use std::alloc::AllocError;
 
 /// A completed WRITE to a regular file.
 #[derive(Clone, Copy)]
@@ -59,15 +55,12 @@ fn written_in(setup: &Setup, state: &State, number: u32, row: &Row) -> Option<Wr
         return None;
     }
     let count = moved(row.phase);
-    match file_of(setup, row.entry.fd) {
-        Some(file) => Some(Written {
-            row: number,
-            file,
-            first: begins(state, count, &row.entry),
-            count,
-        }),
-        None => None,
-    }
+    Some(Written {
+        row: number,
+        file: file_of(setup, row.entry.fd)?,
+        first: begins(state, count, &row.entry),
+        count,
+    })
 }
 
 /// Returns the bytes of a regular file that a completed WRITE moved, by the state after it.
@@ -83,10 +76,7 @@ pub(crate) fn written_of(setup: &Setup, state: &State, effect: &Effect) -> Optio
 fn has_ended_with(outcome: i32, phase: Phase) -> bool
     ensures { result ≡ has_ended_with outcome phase }
 {
-    match phase {
-        Phase::Ended(res) => res == outcome,
-        _ => false,
-    }
+    matches!(phase, Phase::Ended(res) if res == outcome)
 }
 
 fn fsync_in(setup: &Setup, outcome: i32, number: u32, row: &Row) -> Option<Fsync>
@@ -95,10 +85,8 @@ fn fsync_in(setup: &Setup, outcome: i32, number: u32, row: &Row) -> Option<Fsync
     if !(row.entry.opcode == Op::Fsync as u8 && has_ended_with(outcome, row.phase)) {
         return None;
     }
-    match file_of(setup, row.entry.fd) {
-        Some(file) => Some(Fsync { row: number, file }),
-        None => None,
-    }
+    let file = file_of(setup, row.entry.fd)?;
+    Some(Fsync { row: number, file })
 }
 
 /// Returns the completed FSYNC of a regular file, if it has this result.
@@ -113,32 +101,18 @@ pub(crate) fn fsync_of(setup: &Setup, outcome: i32, effect: &Effect) -> Option<F
 
 // ---- bytes that are not durable
 
-// Returns whether a byte of a file is after the end of the durable contents, or differs from its
-// durable value.
-fn is_volatile_byte(state: &State, object: u32, durable: u64, at: u32) -> bool
-    ensures { result ≡ (nat_le durable at || differ (byte_in (view state.now (FileByte object at)))
-        (byte_in (view state.now (DurableByte object at)))) }
-{
-    durable <= at as u64 || differs_at(state, object, at)
-}
-
-// Returns whether a byte of a file is in a set or isn't durable.
+// Returns whether a byte of a file is in a set or isn't durable: it is after the end of the durable
+// contents, or differs from its durable value.
 fn is_in_or_volatile(bytes: &BitSet, state: &State, object: u32, durable: u64, at: u32) -> bool
     ensures { result ≡ (has bytes.now at || (nat_le durable at
         || differ (byte_in (view state.now (FileByte object at)))
         (byte_in (view state.now (DurableByte object at))))) }
 {
-    bytes.contains(at as usize) || is_volatile_byte(state, object, durable, at)
+    bytes.contains(at as usize) || (durable <= at as u64 || differs_at(state, object, at))
 }
 
 // Adds the bytes that are not durable to a set, given the two lengths of the file.
-fn mark_below(
-    bytes: &mut BitSet,
-    state: &State,
-    object: u32,
-    len: u64,
-    durable: u64,
-) -> Result<(), AllocError>
+fn mark_below(bytes: &mut BitSet, state: &State, object: u32, len: u64, durable: u64) -> Added
     requires { len ≤ 65536 }
     ensures { OnOk result ((k : ℕ) → has bytes.new k ≡ (has bytes.old k || (nat_lt k len
         && (nat_le durable k || differ (byte_in (view state.now (FileByte object k)))
@@ -153,11 +127,7 @@ fn mark_below(
 }
 
 /// Adds the bytes of a file that are not durable to a set.
-pub(crate) fn mark_volatile(
-    bytes: &mut BitSet,
-    state: &State,
-    object: u32,
-) -> Result<(), AllocError>
+pub(crate) fn mark_volatile(bytes: &mut BitSet, state: &State, object: u32) -> Added
     ensures { OnOk result ((k : ℕ) →
         has bytes.new k ≡ (has bytes.old k || is_volatile_at state.now object k)) }
 {

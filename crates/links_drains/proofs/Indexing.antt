@@ -28,7 +28,7 @@ chained_set rows r before row c h same =
     subst Chained (updated_set f rows r before h ∙ ap (slice_set rows r) e) (chained-updated f rows r (λ x. refl) c)
 
 -- A row of the longer list is an old one or the new one.
-pushed : (rows : List Row) (row : Row) (q : ℕ) (x : Row) → slice_get (rows ++ row ∷ []) q ≡ Some x → (slice_get rows q ≡ Some x) ⊎ ((q ≡ length rows) × (row ≡ x))
+pub pushed : (rows : List Row) (row : Row) (q : ℕ) (x : Row) → slice_get (rows ++ row ∷ []) q ≡ Some x → (slice_get rows q ≡ Some x) ⊎ ((q ≡ length rows) × (row ≡ x))
 pushed rows row q x h = by (length rows == q) refl (sym (slice_get-push rows q row) ∙ h)
   where
     by : (b : Bool) → (length rows == q) ≡ b → cond b (Some row) (slice_get rows q) ≡ Some x → (slice_get rows q ≡ Some x) ⊎ ((q ≡ length rows) × (row ≡ x))

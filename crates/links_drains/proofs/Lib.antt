@@ -3,8 +3,10 @@ pub mod Chains
 pub mod Counting
 pub mod DirectPairs
 pub mod Eligibility
+pub mod EndingRows
 pub mod FailingRows
 pub mod Filters
+pub mod Finding
 pub mod Fixed
 pub mod Indexing
 pub mod NextRows

@@ -1,7 +1,9 @@
 -- Lists of requests that complete, with their results.
 use Rattle.std.specs.Prelude.{◌≡◌, ℕ, ℤ, negsuc, ◌<◌, ◌==◌, Bool, true, if◌then◌else◌, Option, Some, None, slice_get, List, [], ◌∷◌}
 use Rattle.std.specs.List.{filter_map, list_any, enumerate_from}
+use Rattle.std.specs.Option.{option_map_or}
 use Rattle.entries.specs.declared.row.Row.{Row}
+use Rattle.entries.specs.declared.row.Phase.TheVariants.{Ended}
 use Rattle.links_drains.specs.Phases.{is_unfinished}
 
 -- A request's number and its result.
@@ -20,6 +22,10 @@ result_in (e ∷ es) r = if e.0 == r then Some e.1 else result_in es r
 -- Whether request r is listed.
 abbrev pub is_listed : List Ending → ℕ → Bool
 is_listed es r = list_any (λ (e : Ending). e.0 == r) es
+
+-- A request, after the listed ones completed.
+abbrev pub ended_by : List Ending → ℕ → Row → Row
+ended_by es r row = option_map_or (λ res. record row { phase = Ended res }) (result_in es r) row
 
 -- The result, if the condition holds.
 abbrev pub given : Bool → ℤ → Option ℤ

@@ -2,6 +2,7 @@ pub mod Batches
 pub mod Counts
 pub mod Eligible
 pub mod Endings
+pub mod Finders
 pub mod Holding
 pub mod Indexes
 pub mod Links

@@ -3,6 +3,7 @@
 #![tactic(auto)]
 
 mod failing;
+mod finder;
 mod holding;
 mod index;
 pub mod laws;

@@ -14,8 +14,11 @@ ghost use Rattle.links_drains.specs.Numbered.{IsNextWhere, NoneWhere};
 ghost use Rattle.links_drains.specs.Rows.{fixed_of, Stay, table_owns, table_seen, table_can_put, new_row as new_row_of};
 ghost use Rattle.links_drains.specs.Units.{is_open, rest_of as rest_of_unit, next_issued, IsNextIssued, NoneIssuedFrom};
 
+mod ending;
+mod finding;
 mod queued;
 
+use crate::finder::Finder;
 use crate::holding::{count, take_all_off, take_off};
 use crate::index::Index;
 use crate::rest::rest_in;
@@ -36,6 +39,8 @@ pub struct Table {
     held: Held,
     /// Finds requests by their phase, chain and threshold.
     index: Index,
+    /// Finds requests by their user_data or descriptor.
+    finder: Finder,
 }
 
 impl Model for Table {
@@ -48,7 +53,7 @@ impl Model for Table {
 
     ghost use Rattle.links_drains.specs.Tables.{Formed};
 
-    ghost invariant = { λ a. Formed a.rows.items a.held a.index };
+    ghost invariant = { λ a. Formed a.rows.items a.held a.index a.finder };
 }
 
 impl At for Table {
@@ -84,6 +89,7 @@ impl Part for Table {
         match (place, value) {
             (Place::Request(i), Some(Value::Requested(row))) => self.set(i as usize, row),
             (Place::Request(i), None) => self.truncate(i as usize),
+            // `can_put` allows no other place or value.
             _ => unreachable!(),
         }
     }
@@ -98,6 +104,7 @@ impl Table {
             rows: Vec::new(alloc),
             held: Held::new(),
             index: Index::new(alloc),
+            finder: Finder::new(alloc),
         }
     }
 
@@ -238,10 +245,12 @@ impl Table {
         let r = self.rows.len();
         self.rows.reserve(1)?;
         self.index.make_room(&self.rows)?;
+        self.finder.make_room(&self.rows)?;
         notes.note_row(r as u32, None)?;
         self.rows.push(row)?;
         count(&mut self.held, &row);
         self.index.update(&self.rows, r);
+        self.finder.add(r, &row);
         Ok(())
     }
 
@@ -316,6 +325,7 @@ impl Table {
         count(&mut self.held, &after);
         self.rows[r] = after;
         self.index.update(&self.rows, r);
+        self.finder.mark(r, &after);
     }
 
     /// Drops the requests from a number on, without an allocation, in time linear in how many they
@@ -326,6 +336,7 @@ impl Table {
         if n < self.rows.len() {
             take_all_off(&mut self.held, &self.rows[n..]);
             self.index.cut(&self.rows, n);
+            self.finder.cut(&self.rows, n);
             self.rows.truncate(n);
         }
     }
@@ -338,6 +349,7 @@ impl Table {
             rows: copy_rows(alloc, &self.rows)?,
             held: self.held,
             index: self.index.copy(alloc)?,
+            finder: self.finder.copy(alloc)?,
         })
     }
 }

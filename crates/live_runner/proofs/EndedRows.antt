@@ -9,7 +9,7 @@ use Rattle.entries.specs.declared.row.Row.{Row}
 use Rattle.entries.specs.declared.row.Phase.{Phase}
 use Rattle.entries.specs.declared.row.Phase.TheVariants.{Queued, Issued, Ended}
 use Rattle.links_drains.specs.Batches.{rows_of, direct_of}
-use Rattle.links_drains.specs.Endings.{Ending, result_in}
+use Rattle.links_drains.specs.Endings.{Ending, ended_by, result_in}
 use Rattle.links_drains.specs.Links.{is_guard}
 use Rattle.links_drains.specs.Numbered.{map_numbered}
 use Rattle.links_drains.specs.Phases.{is_queued, is_issued, is_ended}
@@ -36,10 +36,10 @@ use Rattle.scenario.specs.declared.event.Refusal.TheVariants.{WrongPhase}
 use Rattle.timeouts_cancel.specs.Cascades.{fall_of}
 use Rattle.machine.specs.declared.whole.Machine.{Machine}
 use Rattle.machine.specs.Cancels.{verdict_of, ending_with}
-use Rattle.machine.specs.Steps.{refusal, issue_refusal, after, resumed, stepped, executed, entered, entered_without_poller, entered_with_poller, submitting, before_submission, is_busy, is_unknown, gets_events, wakes, woken, shown, awaited, ready_count, needed, held_back, with_poller, closed, is_open, flushed, ended_by, cascaded, taken, submitted, answered, issued, cancelled, finished, finished_as, lacks_descriptor, all_started, entries_for, expired, expiring, is_guard_of, started_with, waiting_target}
+use Rattle.machine.specs.Steps.{refusal, issue_refusal, after, resumed, stepped, executed, entered, entered_without_poller, entered_with_poller, submitting, before_submission, is_busy, is_unknown, gets_events, wakes, woken, shown, awaited, ready_count, needed, held_back, with_poller, closed, is_open, flushed, cascaded, taken, submitted, answered, issued, cancelled, finished, finished_as, lacks_descriptor, all_started, entries_for, expired, expiring, is_guard_of, started_with, waiting_target}
 use Rattle.machine.specs.Submission.{einval, ebusy, ebadf}
 use Rattle.machine.specs.Threads.{ThreadState}
-use Rattle.machine.proofs.MappedRows.{mapped_at}
+use Rattle.links_drains.proofs.EndingRows.{mapped_at}
 use Rattle.machine.specs.Deadlines.{deadline_at}
 use Rattle.live_runner.specs.declared.offering.Action.TheVariants.{Issuing, Finishing, Expiring}
 use Rattle.live_runner.specs.Least.{least, least_value}

@@ -1,7 +1,6 @@
 -- The requests of a cascade, and the machine after it.
 use Rattle.std.proofs.Common.{◌≡◌, ℕ, ℤ, zero, suc, Bool, true, false, cond, refl, sym, ◌∙◌, ap, subst, List, [], ◌∷◌, length, ◌+◌, ◌*◌, ◌<◌, ◌≤◌, ◌⊎◌, inl, inr, arith}
 use Rattle.std.proofs.lemmas.Bool.{eq-eqb}
-use Rattle.std.proofs.lemmas.Option.{slice_get_within}
 use Rattle.std.specs.Prelude.{Option, Some, None, option_map, slice_get, not, nat_lt, nat_le, ◌==◌, ◌&&◌}
 use Rattle.std.specs.Option.{option_map_or}
 use Rattle.entries.specs.declared.row.Row.{Row}
@@ -9,50 +8,30 @@ use Rattle.entries.specs.declared.row.Phase.{Phase}
 use Rattle.entries.specs.declared.row.Phase.TheVariants.{Queued, Issued, Ended}
 use Rattle.model_files.specs.Worlds.{PutsWithin}
 use Rattle.opcodes.proofs.Counting.{puts_more}
-use Rattle.links_drains.specs.Endings.{result_in, Direct}
+use Rattle.links_drains.specs.Endings.{ended_by, result_in, Direct}
 use Rattle.links_drains.specs.Counts.{is_met}
 use Rattle.links_drains.specs.Links.{is_guard}
+use Rattle.links_drains.specs.Numbered.{map_numbered}
 use Rattle.links_drains.specs.Phases.{is_ended, is_issued, is_unfinished, ended_of}
-use Rattle.links_drains.proofs.Counting.{ended-ended}
 use Rattle.timeouts_cancel.specs.Cascades.{counted_in, fall_of}
 use Rattle.timeouts_cancel.proofs.Whole.{counted_cascade, unlisted, cascade_unfinished, cascade_rising, target_stays}
-use Rattle.machine.specs.InTurn.{ended, ended_in_turn}
-use Rattle.machine.specs.Steps.{ended_by, cascaded}
+use Rattle.machine.specs.Steps.{all_ended, cascaded}
 use Rattle.machine.specs.Whole.{AllGuardsLinked, GuardIsLinked, Mostly, NoneMet, RowFormed, WellFormed}
 use Rattle.machine.specs.declared.whole.Machine.{Machine}
-use Rattle.machine.proofs.AtOnce.{Posts, posts, at_once}
-use Rattle.machine.proofs.Endings.{CanEnd, can_end, ended_in_turn_rows, ended_in_turn_stays, mostly_ended_in_turn, world_ended_in_turn}
-use Rattle.machine.proofs.FormedMachines.{mostly, formed_of}
+use Rattle.machine.proofs.EndedRows.{CanEnd, can_end, ended_or_same, ended_together, unlisted_same}
+use Rattle.machine.proofs.FormedMachines.{mostly, mostly_ended, formed_of}
 use Rattle.machine.proofs.FormedRows.{ended_row}
-use Rattle.machine.proofs.MappedRows.{mapped_at}
+use Rattle.links_drains.proofs.EndingRows.{mapped_at}
 
-not_ended : (b : Bool) → not b ≡ true → b ≡ false
-not_ended true h = absurd cc
-not_ended false h = refl
+pub direct_cascade : (rows : List Row) (c : ℕ) (direct : List (ℕ × ℤ)) → Direct rows (fall_of rows c direct)
+direct_cascade rows c direct = record { each = cascade_unfinished rows c direct; rising = cascade_rising rows c direct }
 
-pub can_cascade : (rows : List Row) (c : ℕ) (direct : List (ℕ × ℤ)) → CanEnd rows (fall_of rows c direct)
-can_cascade rows c direct = can_end rows 0 (fall_of rows c direct) (record {
-  each = λ i p h. let w = cascade_unfinished rows c direct i p h in (w.0, w.1, not_ended (is_ended w.0.phase) w.2);
-  above = λ i p h. omega arith;
-  less = cascade_rising rows c direct;
-})
-
--- They may complete one after the other.
-pub cascade_in_turn : (m : Machine) (direct : List (ℕ × ℤ)) → Posts m → cascaded m direct ≡ ended_in_turn m (fall_of m.table m.counted direct)
-unfolding cascaded
-cascade_in_turn m direct h = at_once m (fall_of m.table m.counted direct) h (can_cascade m.table m.counted direct)
+can_cascade : (rows : List Row) (c : ℕ) (direct : List (ℕ × ℤ)) → CanEnd rows (fall_of rows c direct)
+can_cascade rows c direct = can_end rows (fall_of rows c direct) (direct_cascade rows c direct)
 
 pub threads_cascaded : (m : Machine) (direct : List (ℕ × ℤ)) → (cascaded m direct).threads ≡ m.threads
 unfolding cascaded
 threads_cascaded m direct = refl
-
--- Each listed request completes.
-ended_all : (m : Machine) (ps : List (ℕ × ℤ)) → CanEnd m.table ps → ended_of (ended_in_turn m ps).table ≡ ended_of m.table + length ps
-ended_all m [] h = omega arith
-ended_all m (p ∷ ps) h =
-    let a = ended_all (ended m p.0 p.1) ps h.3 in
-    let b = ended-ended m.table p.0 h.0 p.1 h.1 h.2 in
-    omega (arith, a, b)
 
 -- A direct completion is in the cascade's list.
 pub cascades_some : (rows : List Row) (c r : ℕ) (res : ℤ) (x : Row) → slice_get rows r ≡ Some x → is_ended x.phase ≡ false → 1 ≤ length (fall_of rows c ((r, res) ∷ []))
@@ -99,51 +78,49 @@ cascaded_unmet m direct r x h = by (slice_get m.table r) refl (sym (mapped_at (e
 
 -- After a cascade, linked timeouts come after their targets, if all but the direct completions did
 -- before.
-guards_in_turn : (m : Machine) (direct : List (ℕ × ℤ)) → ((r : ℕ) (x : Row) → slice_get m.table r ≡ Some x → is_guard x ≡ true → is_unfinished x.phase ≡ true → result_in direct r ≡ None → GuardIsLinked m.table r x) → AllGuardsLinked (ended_in_turn m (fall_of m.table m.counted direct)).table
-guards_in_turn m direct h r x e g u = by (ended_in_turn_rows m endings_so r x e)
+guards_cascaded : (m : Machine) (direct : List (ℕ × ℤ)) → ((r : ℕ) (x : Row) → slice_get m.table r ≡ Some x → is_guard x ≡ true → is_unfinished x.phase ≡ true → result_in direct r ≡ None → GuardIsLinked m.table r x) → AllGuardsLinked (map_numbered (ended_by (fall_of m.table m.counted direct)) m.table)
+guards_cascaded m direct h r x e g u = by (ended_or_same m.table endings_so r x e)
   where
     endings_so : List (ℕ × ℤ)
     endings_so = fall_of m.table m.counted direct
 
-    by : ((slice_get m.table r ≡ Some x) × (result_in endings_so r ≡ None)) ⊎ (is_ended x.phase ≡ true) → GuardIsLinked (ended_in_turn m endings_so).table r x
+    by : ((slice_get m.table r ≡ Some x) × (result_in endings_so r ≡ None)) ⊎ (is_ended x.phase ≡ true) → GuardIsLinked (map_numbered (ended_by endings_so) m.table) r x
     by (inr k) = absurd (let o = sym u ∙ ap not k in cc)
     by (inl k) =
         let s = h r x k.0 g u (unlisted m.table m.counted direct r x k.0 u k.1).undirected in
         let out = target_stays m.table m.counted direct r s.target x s.row k.0 u g s.is s.there (ap is_unfinished s.alike ∙ u) s.other k.1 in
-        record { target = s.target; is = s.is; follows = s.follows; row = s.row; there = ended_in_turn_stays m endings_so s.target out ∙ s.there; other = s.other; unit = s.unit; alike = s.alike }
+        record { target = s.target; is = s.is; follows = s.follows; row = s.row; there = unlisted_same m.table endings_so s.target out ∙ s.there; other = s.other; unit = s.unit; alike = s.alike }
 
 -- After a cascade, the machine is well formed, if only requests that complete directly weren't.
-formed_in_turn_but : (m : Machine) (direct : List (ℕ × ℤ)) → Mostly m → PutsWithin (65536 * (ended_of m.table + length (fall_of m.table m.counted direct))) m.world → ((j : ℕ) (y : Row) → slice_get m.table j ≡ Some y → RowFormed m.world y ⊎ ((res : ℤ) × (result_in direct j ≡ Some res)))
-    → ((r : ℕ) (x : Row) → slice_get m.table r ≡ Some x → is_guard x ≡ true → is_unfinished x.phase ≡ true → result_in direct r ≡ None → GuardIsLinked m.table r x) → WellFormed (ended_in_turn m (fall_of m.table m.counted direct))
-formed_in_turn_but m direct f puts h guards =
-    formed_of (ended_in_turn m (fall_of m.table m.counted direct)) (mostly_ended_in_turn m (fall_of m.table m.counted direct) f (can_cascade m.table m.counted direct))
-    (subst (λ w. PutsWithin (65536 * ended_of (ended_in_turn m (fall_of m.table m.counted direct)).table) w) (sym (world_ended_in_turn m (fall_of m.table m.counted direct)))
-    (subst (λ n. PutsWithin (65536 * n) m.world) (sym (ended_all m (fall_of m.table m.counted direct) (can_cascade m.table m.counted direct))) puts))
-    (record { each = λ j y e. subst (λ w. RowFormed w y) (sym (world_ended_in_turn m (fall_of m.table m.counted direct))) (by j y (ended_in_turn_rows m (fall_of m.table m.counted direct) j y e)) })
-    (guards_in_turn m direct guards)
-    (subst (λ (n : Machine). NoneMet n.counted n.table) (cascade_in_turn m direct (posts m f)) (cascaded_unmet m direct))
+pub formed_cascaded_but : (m : Machine) (direct : List (ℕ × ℤ)) → Mostly m → PutsWithin (65536 * (ended_of m.table + length (fall_of m.table m.counted direct))) m.world → ((j : ℕ) (y : Row) → slice_get m.table j ≡ Some y → RowFormed m.world y ⊎ ((res : ℤ) × (result_in direct j ≡ Some res)))
+    → ((r : ℕ) (x : Row) → slice_get m.table r ≡ Some x → is_guard x ≡ true → is_unfinished x.phase ≡ true → result_in direct r ≡ None → GuardIsLinked m.table r x) → WellFormed (cascaded m direct)
+unfolding cascaded
+formed_cascaded_but m direct f puts h guards =
+    formed_of (all_ended m endings_so) (mostly_ended m endings_so f can)
+    (subst (λ n. PutsWithin (65536 * n) m.world) (sym (ended_together m.table endings_so can).ended) puts)
+    (record { each = λ j y e. by j y (ended_or_same m.table endings_so j y e) })
+    (guards_cascaded m direct guards)
+    (cascaded_unmet m direct)
   where
-    stays : (j : ℕ) (y : Row) → slice_get m.table j ≡ Some y → result_in (fall_of m.table m.counted direct) j ≡ None → (b : Bool) → is_ended y.phase ≡ b → RowFormed m.world y ⊎ ((res : ℤ) × (result_in direct j ≡ Some res)) → RowFormed m.world y
+    endings_so : List (ℕ × ℤ)
+    endings_so = fall_of m.table m.counted direct
+
+    can : CanEnd m.table endings_so
+    can = can_cascade m.table m.counted direct
+
+    stays : (j : ℕ) (y : Row) → slice_get m.table j ≡ Some y → result_in endings_so j ≡ None → (b : Bool) → is_ended y.phase ≡ b → RowFormed m.world y ⊎ ((res : ℤ) × (result_in direct j ≡ Some res)) → RowFormed m.world y
     stays j y e n true u k = ended_row m.world y u
     stays j y e n false u (inl k) = k
     stays j y e n false u (inr k) = absurd (let d = (unlisted m.table m.counted direct j y e (ap not u) n).undirected in let x = sym d ∙ k.1 in cc)
 
-    by : (j : ℕ) (y : Row) → ((slice_get m.table j ≡ Some y) × (result_in (fall_of m.table m.counted direct) j ≡ None)) ⊎ (is_ended y.phase ≡ true) → RowFormed m.world y
+    by : (j : ℕ) (y : Row) → ((slice_get m.table j ≡ Some y) × (result_in endings_so j ≡ None)) ⊎ (is_ended y.phase ≡ true) → RowFormed m.world y
     by j y (inl a) = stays j y a.0 a.1 (is_ended y.phase) refl (h j y a.0)
     by j y (inr a) = ended_row m.world y a
-
-pub formed_cascaded_but : (m : Machine) (direct : List (ℕ × ℤ)) → Mostly m → PutsWithin (65536 * (ended_of m.table + length (fall_of m.table m.counted direct))) m.world → ((j : ℕ) (y : Row) → slice_get m.table j ≡ Some y → RowFormed m.world y ⊎ ((res : ℤ) × (result_in direct j ≡ Some res)))
-    → ((r : ℕ) (x : Row) → slice_get m.table r ≡ Some x → is_guard x ≡ true → is_unfinished x.phase ≡ true → result_in direct r ≡ None → GuardIsLinked m.table r x) → WellFormed (cascaded m direct)
-formed_cascaded_but m direct f puts h guards = subst WellFormed (sym (cascade_in_turn m direct (posts m f))) (formed_in_turn_but m direct f puts h guards)
 
 pub formed_cascaded : (m : Machine) (direct : List (ℕ × ℤ)) → WellFormed m → WellFormed (cascaded m direct)
 formed_cascaded m direct f =
     formed_cascaded_but m direct (mostly m f) (puts_more (65536 * ended_of m.table) (65536 * (ended_of m.table + length (fall_of m.table m.counted direct))) m.world (omega arith) f.puts) (λ j y e. inl (f.rows j y e))
     (λ r x e g u n. f.guards r x e g u)
-
--- Each listed number is that of a request.
-pub cascade_within : (rows : List Row) (c : ℕ) (direct : List (ℕ × ℤ)) (i : ℕ) (p : ℕ × ℤ) → slice_get (fall_of rows c direct) i ≡ Some p → p.0 < length rows
-cascade_within rows c direct i p h = let w = cascade_unfinished rows c direct i p h in slice_get_within rows p.0 w.0 w.1
 
 -- Two unfinished requests, in order, are valid direct completions.
 pub direct_two : (rows : List Row) (t r : ℕ) (n res : ℤ) (y x : Row) → slice_get rows t ≡ Some y → is_ended y.phase ≡ false → slice_get rows r ≡ Some x → is_ended x.phase ≡ false → t < r → Direct rows ((t, n) ∷ (r, res) ∷ [])

@@ -1,7 +1,9 @@
 -- Invariants that each change of the machine preserves.
-use Rattle.std.proofs.Common.{◌≡◌, ℕ, ℤ, pos, negsuc, Bool, true, false, cond, refl, sym, ◌∙◌, ap, subst, [], ◌∷◌, length, drop, ◌+◌, ◌*◌, ◌%◌, ◌<◌, ◌≤◌, ◌^◌, length-append, length-set, arith}
+use Rattle.std.proofs.Common.{◌≡◌, ℕ, suc, ℤ, pos, negsuc, Bool, true, false, refl, sym, ◌∙◌, ap, subst, [], ◌∷◌, ◌++◌, length, drop, ◌+◌, ◌*◌, ◌%◌, ◌<◌, ◌≤◌, ◌^◌, length-append, length-set, arith}
 use Rattle.std.proofs.lemmas.List.{length-drop}
+use Rattle.std.proofs.lemmas.List.Elements.{filter_map-append}
 use Rattle.std.specs.Prelude.{List, Option, Some, None, option_map, nat_lt, nat_le, slice_get, slice_set, not, ◌==◌, ◌&&◌, ◌||◌, if◌then◌else◌}
+use Rattle.std.specs.List.{cons_option}
 use Rattle.std.specs.Option.{option_map_or}
 use Rattle.std.proofs.lemmas.Bool.{eqb-true, lt-leb}
 use Rattle.std.proofs.lemmas.Bool.Decides.{nat_tests}
@@ -20,22 +22,26 @@ use Rattle.ring_words.specs.declared.flag.RingFlag.TheVariants.{NeedWakeup, CqOv
 use Rattle.ring_words.proofs.Laws.{formed_pushed, formed_entry, formed_flag, formed_reaped}
 use Rattle.ring_words.proofs.Order.{waiting_less, waiting_more}
 use Rattle.links_drains.specs.Counts.{is_met}
+use Rattle.links_drains.specs.Endings.{Direct, Ending, ended_by}
 use Rattle.links_drains.specs.Links.{is_guard}
-use Rattle.links_drains.specs.Phases.{is_ended, is_queued, counts, counted_of}
-use Rattle.links_drains.proofs.Counting.{counted-ended, counted-unfinished, ended-ended, ended-unfinished}
+use Rattle.links_drains.specs.Numbered.{map_numbered}
+use Rattle.links_drains.specs.Phases.{is_ended, is_queued}
+use Rattle.links_drains.proofs.Counting.{counted-le-length, counted-unfinished, ended-unfinished}
 use Rattle.links_drains.specs.Phases.{ended_of}
 use Rattle.model_files.specs.Worlds.{PutsWithin}
 use Rattle.overflow.specs.Backlogs.{BacklogState, is_clear, fits, Delivery, DeliveryFormed, all_posted, flushed as flushed_delivery}
 use Rattle.overflow.proofs.KeptInOrder.{posted_formed, flushed_formed}
-use Rattle.machine.specs.InTurn.{ended}
-use Rattle.machine.specs.Steps.{all_started, delivery, flushed, held_by, is_guard_of, is_usable, lacks_descriptor, number_in, started, started_with}
+use Rattle.timeouts_cancel.specs.Cascades.{counted_in}
+use Rattle.timeouts_cancel.proofs.Tallying.{few_counted}
+use Rattle.machine.specs.Steps.{all_ended, all_started, completion_of, completions_of, delivery, flushed, held_by, is_guard_of, is_usable, lacks_descriptor, number_in, posted, started, started_with}
 use Rattle.machine.specs.Whole.{AllGuardsLinked, Mostly, NoneMet, is_asleep, flag_word, HoldsDescriptor, RowFormed, WellFormed, ThreadWellFormed}
 use Rattle.machine.specs.declared.whole.Machine.{Machine}
 use Rattle.links_drains.proofs.Chains.{chained-updated}
+use Rattle.machine.proofs.EndedRows.{CanEnd, can_end, can_end_most, ended_together}
 use Rattle.machine.proofs.FormedRows.{FormedRows, deadline_timed, formed_rows-updated, formed_rows-moved}
 use Rattle.machine.proofs.GuardLemmas.{apart, guard_is_guard_of, started_guards, started_in_turn}
 use Rattle.machine.proofs.IssuingRows.{started_at_once}
-use Rattle.machine.proofs.MappedRows.{mapped_at}
+use Rattle.links_drains.proofs.EndingRows.{mapped_at}
 
 pub mostly : (m : Machine) → WellFormed m → Mostly m
 mostly m h = h.mostly
@@ -96,26 +102,65 @@ mostly_flushed m h =
 pub formed_flushed : (m : Machine) → WellFormed m → WellFormed (flushed m)
 formed_flushed m h = formed_of (flushed m) (mostly_flushed m (mostly m h)) h.puts (record { each = h.rows }) h.guards h.unmet
 
--- ---- A request completes
+-- ---- Requests complete
 
-count_one : (n : ℕ) (b : Bool) → cond b (n + 1) n ≡ n + cond b 1 0
-count_one n true = refl
-count_one n false = omega arith
+-- A completion for each request of the list at most.
+pub completions_most : (rows : List Row) (es : List Ending) → length (completions_of rows es) ≤ length es
+completions_most rows [] = omega arith
+completions_most rows (e ∷ es) = by (option_map (completion_of e.1) (slice_get rows e.0)) (completions_most rows es)
+  where
+    by : (o : Option Cqe) → length (completions_of rows es) ≤ length es → length (cons_option o (completions_of rows es)) ≤ suc (length es)
+    by None h = omega (arith, h)
+    by (Some c) h = omega (arith, h)
 
--- One completion adds at most one item to the backlog.
-pub items_one : (d : Delivery) (c : Cqe) → length (all_posted d (c ∷ [])).backlog.items ≤ length d.backlog.items + 1
-items_one d c =
-    let n = fits d.completions d.backlog 1 in
-    let a = length-append d.backlog.items (drop n (c ∷ [])) in
-    let b = length-drop n (c ∷ []) in
+-- The list has one more request.
+pub completions_more : (rows : List Row) (es : List Ending) (p : Ending) (row : Row) (c : Cqe) → slice_get rows p.0 ≡ Some row → c ≡ completion_of p.1 row → completions_of rows es ++ c ∷ [] ≡ completions_of rows (es ++ p ∷ [])
+completions_more rows es p row c there is =
+    ap (λ x. completions_of rows es ++ x ∷ []) is
+    ∙ ap (λ o. completions_of rows es ++ cons_option (option_map (completion_of p.1) o) []) (sym there)
+    ∙ sym (filter_map-append (λ (e : Ending). option_map (completion_of e.1) (slice_get rows e.0)) es (p ∷ []))
+
+pub only_ending : (es : List Ending) (p : Ending) → length es ≡ 1 → slice_get es 0 ≡ Some p → es ≡ p ∷ []
+only_ending [] p l h = absurd cc
+only_ending (e ∷ []) p l h = let same : e ≡ p = cc in ap (λ x. x ∷ []) same
+only_ending (e ∷ d ∷ es) p l h = absurd (omega (arith, l))
+
+-- The backlog has room for the completions of unfinished requests, and the count doesn't wrap.
+pub room_for_endings : (m : Machine) (es : List Ending) → Mostly m → Direct m.table es → length m.backlog.items + length es ≤ 65536
+room_for_endings m es h d = let k = can_end_most m.table es (can_end m.table es d) in let a = h.kept.overflowed in let b = h.table.few in omega (arith, k, a, b)
+
+pub counts_of_endings : (m : Machine) (es : List Ending) → Mostly m → Direct m.table es → m.counted + counted_in m.table es < 2 ^ 32
+counts_of_endings m es h d =
+    let k = room_for_endings m es h d in
+    let a = counted-le-length m.table in
+    let b = few_counted m.table es in
+    let c = h.table.few in
+    let e = h.table.counted in
+    omega (arith, k, a, b, c, e)
+
+-- Completions are posted, the phases set, and the count raised.
+pub ended_after : (m y : Machine) (es : List Ending) (rows : List Row) (n : ℕ) → y ≡ posted m (completions_of m.table es) → rows ≡ map_numbered (ended_by es) y.table → n ≡ counted_in m.table es → record y { table = rows; counted = y.counted + n } ≡ all_ended m es
+ended_after m y es rows n posts ends counts =
+    ap (λ r. made y r n) ends ∙ ap (made y (map_numbered (ended_by es) y.table)) counts ∙ ap (λ (z : Machine). made z (map_numbered (ended_by es) z.table) (counted_in m.table es)) posts
+  where
+    made : Machine → List Row → ℕ → Machine
+    made z r k = record z { table = r; counted = z.counted + k }
+
+-- Each completion adds at most one item to the backlog.
+items_most : (d : Delivery) (cs : List Cqe) → length (all_posted d cs).backlog.items ≤ length d.backlog.items + length cs
+items_most d cs =
+    let n = fits d.completions d.backlog (length cs) in
+    let a = length-append d.backlog.items (drop n cs) in
+    let b = length-drop n cs in
     omega (arith, a, b)
 
-pub mostly_ended : (m : Machine) (r : ℕ) (x : Row) (res : ℤ) → Mostly m → slice_get m.table r ≡ Some x → is_ended x.phase ≡ false → Mostly (ended m r res)
-mostly_ended m r x res h e u =
-    let c : Cqe = record { user_data = x.entry.user_data; res = res; flags = 0 } in
-    let d : DeliveryFormed (all_posted (delivery m) (c ∷ [])) = posted_formed (delivery m) (c ∷ []) (delivers m h) in
-    let f = flags_kept m (all_posted (delivery m) (c ∷ [])).backlog h in
-    rw e (record {
+pub mostly_ended : (m : Machine) (es : List Ending) → Mostly m → CanEnd m.table es → Mostly (all_ended m es)
+mostly_ended m es h k =
+    let cs : List Cqe = completions_of m.table es in
+    let d : DeliveryFormed (all_posted (delivery m) cs) = posted_formed (delivery m) cs (delivers m h) in
+    let f = flags_kept m (all_posted (delivery m) cs).backlog h in
+    let t = ended_together m.table es k in
+    record {
       rings = record {
         submissions = formed_flag m.submissions CqOverflow _ h.rings.submissions;
         completions = d.completions;
@@ -125,17 +170,17 @@ mostly_ended m r x res h e u =
       };
       kept = record {
         front = d.front;
-        overflowed = let a = items_one (delivery m) c in let b = ended-ended m.table r x res e u in let k = h.kept.overflowed in omega (arith, a, b, k);
+        overflowed = let a = items_most (delivery m) cs in let b = completions_most m.table es in let c = h.kept.overflowed in let e = t.ended in omega (arith, a, b, c, e);
       };
       table = record {
-        few = let a = length-updated (λ (row : Row). record row { phase = Ended res }) m.table r in let b = h.table.few in omega (arith, a, b);
-        chained = chained-updated (λ (row : Row). record row { phase = Ended res }) m.table r (λ y. refl) h.table.chained;
-        counted = ap (λ n. n + cond (counts x) 1 0) h.table.counted ∙ sym (count_one (counted_of m.table) (counts x)) ∙ sym (counted-ended m.table r x res e u);
+        few = let a = t.same_length in let b = h.table.few in omega (arith, a, b);
+        chained = t.chained h.table.chained;
+        counted = ap (λ n. n + counted_in m.table es) h.table.counted ∙ sym t.counted;
       };
       world = h.world;
       clock = h.clock;
       threads = h.threads;
-    })
+    }
 
 -- ---- A request is issued
 

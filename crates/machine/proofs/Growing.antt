@@ -8,7 +8,7 @@ use Rattle.places.specs.Lists.{updated}
 use Rattle.places.specs.declared.value.Stage.{Stage}
 use Rattle.places.specs.declared.value.Stage.TheVariants.{Ready, Waiting}
 use Rattle.model_files.specs.Worlds.{WorldState, descriptor_of, world_closed, world_stored, OneSetup as OneWorldSetup}
-use Rattle.links_drains.specs.Endings.{result_in}
+use Rattle.links_drains.specs.Endings.{ended_by, result_in}
 use Rattle.links_drains.specs.Holding.{is_held_by}
 use Rattle.links_drains.specs.Rows.{fixed_of}
 use Rattle.entries.specs.declared.choice.Choice.{Choice}
@@ -29,7 +29,7 @@ use Rattle.machine.specs.Cancels.{verdict_of, ending_with}
 use Rattle.machine.specs.Submission.{einval, ebusy, ebadf}
 use Rattle.timeouts_cancel.specs.Cascades.{fall_of}
 use Rattle.std.specs.Option.{option_map_or}
-use Rattle.machine.specs.Steps.{refusal, sleep_refusal, after, resumed, stepped, executed, entered, entered_without_poller, entered_with_poller, submitting, before_submission, is_busy, is_unknown, gets_events, wakes, woken, shown, awaited, ready_count, held_back, with_poller, closed, is_open, posted, flushed, completions_of, ended_by, all_ended, cascaded, taken, submitted, answered, issued, cancelled, finished, finished_as, lacks_descriptor, all_started, entries_for, expired, expiring, is_guard_of, started, started_with, waiting_target}
+use Rattle.machine.specs.Steps.{refusal, sleep_refusal, after, resumed, stepped, executed, entered, entered_without_poller, entered_with_poller, submitting, before_submission, is_busy, is_unknown, gets_events, wakes, woken, shown, awaited, ready_count, held_back, with_poller, closed, is_open, posted, flushed, completions_of, all_ended, cascaded, taken, submitted, answered, issued, cancelled, finished, finished_as, lacks_descriptor, all_started, entries_for, expired, expiring, is_guard_of, started, started_with, waiting_target}
 use Rattle.machine.specs.Threads.{ThreadState, program_of}
 use Rattle.machine.specs.Whole.{Grows, WellFormed}
 use Rattle.scenario.specs.declared.setup.Instruction.{Instruction}

@@ -11,7 +11,7 @@ use Rattle.links_drains.proofs.RowsKept.{get-updated}
 use Rattle.machine.specs.Steps.{all_started, is_guard_of, started, started_with}
 use Rattle.machine.specs.Whole.{AllGuardsLinked}
 use Rattle.machine.proofs.GuardLemmas.{apart, guard_is_guard_of, here, started_in_turn, unfinished_queued}
-use Rattle.machine.proofs.MappedRows.{mapped_at}
+use Rattle.links_drains.proofs.EndingRows.{mapped_at}
 
 none_changed : (f : Row → Row) (rows : List Row) (r i : ℕ) → slice_get rows i ≡ None → slice_get (updated f rows r) i ≡ None
 none_changed f rows r i h = get-updated f rows r i ∙ ap (λ o. cond (r == i) (option_map f o) o) h ∙ by (r == i)

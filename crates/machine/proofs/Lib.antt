@@ -14,13 +14,11 @@ pub mod FormedMachines
 pub mod Growing
 pub mod GuardLemmas
 pub mod MappedRows
+pub mod EndedRows
 pub mod IssuingRows
 pub mod WholeCascades
 pub mod ExpiryLemmas
 pub mod CancelLemmas
-pub mod Endings
-pub mod PostedTogether
-pub mod AtOnce
 pub mod CascadedRows
 pub mod FormedSubmissions
 pub mod Formed
@@ -31,3 +29,4 @@ pub mod Linking
 pub mod StartLemmas
 pub mod PipeCounts
 pub mod Refusals
+pub mod PlanLemmas

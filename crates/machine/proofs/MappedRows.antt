@@ -4,18 +4,10 @@ use Rattle.std.specs.Prelude.{Option, Some, None, option_map, slice_get}
 use Rattle.std.specs.List.{enumerate_from}
 use Rattle.std.proofs.lemmas.List.{length-map}
 use Rattle.std.proofs.lemmas.List.FromFn.{length-enumerate_from}
-use Rattle.std.proofs.lemmas.Option.{slice_get-map}
 use Rattle.entries.specs.declared.row.Row.{Row}
 use Rattle.links_drains.specs.Numbered.{map_numbered}
 use Rattle.links_drains.specs.Rows.{fixed_of, Stay}
-use Rattle.links_drains.proofs.Chains.{enumerated}
-
-pub mapped_at : (f : ℕ → Row → Row) (rows : List Row) (i : ℕ) → slice_get (map_numbered f rows) i ≡ option_map (λ row. f i row) (slice_get rows i)
-mapped_at f rows i = slice_get-map (λ (p : ℕ × Row). f p.0 p.1) (enumerate_from 0 rows) i ∙ ap (option_map (λ (p : ℕ × Row). f p.0 p.1)) (enumerated rows i) ∙ by (slice_get rows i)
-  where
-    by : (o : Option Row) → option_map (λ (p : ℕ × Row). f p.0 p.1) (option_map (λ row. (i, row)) o) ≡ option_map (λ row. f i row) o
-    by None = refl
-    by (Some row) = refl
+use Rattle.links_drains.proofs.EndingRows.{mapped_at}
 
 pub mapped_length : (f : ℕ → Row → Row) (rows : List Row) → length (map_numbered f rows) ≡ length rows
 mapped_length f rows = length-map (enumerate_from 0 rows) (λ (p : ℕ × Row). f p.0 p.1) ∙ length-enumerate_from 0 rows

@@ -1,31 +1,37 @@
 -- A submission of nothing changes nothing.
-use Rattle.std.proofs.Common.{◌≡◌, ℕ, ℤ, pos, Bool, true, false, refl, sym, ◌∙◌, ap, List, [], ◌∷◌, ◌++◌, length, ◌+◌, ◌-◌, ◌%◌, ◌^◌, arith}
+use Rattle.std.proofs.Common.{◌≡◌, ℕ, zero, suc, ℤ, pos, Bool, true, false, refl, sym, ◌∙◌, ap, List, [], ◌∷◌, ◌++◌, length, ◌+◌, ◌-◌, ◌%◌, ◌^◌, ◌⊎◌, inl, inr, arith}
 use Rattle.std.proofs.lemmas.List.{append-nil}
-use Rattle.std.specs.Prelude.{Option, Some, None, slice_get, ◌&&◌, if◌then◌else◌}
+use Rattle.std.specs.Prelude.{Option, Some, None, slice_get, not, ◌&&◌, if◌then◌else◌}
 use Rattle.std.specs.Option.{option_map_or}
 use Rattle.entries.specs.declared.entry.Sqe.{Sqe}
 use Rattle.entries.specs.declared.row.Row.{Row}
 use Rattle.links_drains.specs.Batches.{direct_of, rows_of}
-use Rattle.links_drains.specs.Endings.{ecanceled, endings, given, or_else, result_in}
+use Rattle.links_drains.specs.Endings.{ecanceled, ended_by, endings, given, or_else, result_in}
 use Rattle.links_drains.specs.Links.{is_guard}
+use Rattle.links_drains.specs.Numbered.{map_numbered}
 use Rattle.links_drains.specs.Phases.{is_unfinished}
+use Rattle.links_drains.proofs.Chains.{became}
+use Rattle.links_drains.proofs.EndingRows.{none_ended}
 use Rattle.model_files.specs.Worlds.{WorldState}
-use Rattle.ring_words.specs.Rings.{SubWords}
+use Rattle.ring_words.specs.Rings.{SubWords, with_flag}
+use Rattle.ring_words.specs.declared.flag.RingFlag.TheVariants.{CqOverflow}
+use Rattle.overflow.specs.Backlogs.{Delivery, all_posted, all_posted_at, backlog_with, fits, flagged, is_clear}
 use Rattle.sqpoll.specs.declared.poller.Poller.{Poller}
 use Rattle.timeouts_cancel.specs.Cascades.{fall_of, guards_listed, is_met, with_guards, with_met, with_severed}
 use Rattle.timeouts_cancel.proofs.Listed.{upto_all}
-use Rattle.machine.specs.InTurn.{ended_in_turn}
 use Rattle.machine.specs.Submission.{taken_entries}
-use Rattle.machine.specs.Steps.{after, answered, awaited, entered, entries_for, executed, cascaded, submitted, taken, words_for}
-use Rattle.machine.specs.Whole.{NoneMet, WellFormed}
+use Rattle.machine.specs.Steps.{after, all_ended, answered, awaited, delivery, entered, entries_for, executed, cascaded, submitted, taken, with_delivery, words_for}
+use Rattle.machine.specs.Whole.{NoneMet, WellFormed, flag_word, is_asleep}
 use Rattle.machine.specs.declared.whole.Machine.{Machine}
 use Rattle.scenario.specs.declared.setup.Instruction.TheVariants.{Enter}
 use Rattle.scenario.specs.declared.event.Event.TheVariants.{Take}
-use Rattle.machine.proofs.AtOnce.{posts}
-use Rattle.machine.proofs.CascadedRows.{cascade_in_turn}
-use Rattle.machine.proofs.FormedMachines.{mostly}
-use Rattle.machine.proofs.FormedSubmissions.{length-taken_words}
+use Rattle.machine.proofs.FormedMachines.{overflow_flag}
+use Rattle.machine.proofs.FormedSubmissions.{length-taken_words, old_or_new}
 use Rattle.machine.proofs.SubmissionLemmas.{take_is_taken}
+
+pub empty : {X : Type 0} (xs : List X) → length xs ≡ 0 → xs ≡ []
+empty [] h = refl
+empty (x ∷ xs) h = absurd (omega (arith, h))
 
 -- ---- An empty cascade
 
@@ -55,18 +61,48 @@ nothing_listed rows counted h =
         by true (Some t) = refl
         by false o = refl
 
+-- Posting none changes nothing.
+none_posted : (d : Delivery) (a : Bool) → d.submissions.flags ≡ flag_word a (not (is_clear d.backlog)) → all_posted d [] ≡ d
+none_posted d a h = by (fits d.completions d.backlog 0)
+  where
+    same : record d { submissions = flagged d.submissions d.backlog } ≡ d
+    same = ap (λ n. record d { submissions = record d.submissions { flags = n } }) (ap (λ n. with_flag n CqOverflow (not (is_clear d.backlog))) h ∙ overflow_flag a (not (is_clear d.backlog)) (not (is_clear d.backlog)) ∙ sym h)
+
+    longer : record d { submissions = flagged d.submissions (backlog_with d.backlog []); backlog = backlog_with d.backlog [] } ≡ record d { submissions = flagged d.submissions d.backlog }
+    longer = ap (λ xs. record d { submissions = flagged d.submissions (record d.backlog { items = xs }); backlog = record d.backlog { items = xs } }) (append-nil d.backlog.items)
+
+    by : (i : ℕ) → all_posted_at d [] i ≡ d
+    by zero = longer ∙ same
+    by (suc i) = longer ∙ same
+
+-- Without direct completions, nothing completes.
+pub none_complete : (m : Machine) → m.submissions.flags ≡ flag_word (is_asleep m.poller) (not (is_clear m.backlog)) → NoneMet m.counted m.table → cascaded m [] ≡ m
+unfolding cascaded
+none_complete m flags unmet =
+    ap (all_ended m) (nothing_listed m.table m.counted unmet)
+    ∙ ap (λ d. made d (map_numbered (ended_by []) m.table) (m.counted + 0)) (none_posted (delivery m) (is_asleep m.poller) flags)
+    ∙ ap (λ rows. made (delivery m) rows (m.counted + 0)) (none_ended m.table)
+    ∙ ap (made (delivery m) m.table) (let n : m.counted + 0 ≡ m.counted = omega arith in n)
+  where
+    made : Delivery → List Row → ℕ → Machine
+    made d rows n = record (with_delivery m d) { table = rows; counted = n }
+
 pub nothing_cascades : (m : Machine) → WellFormed m → cascaded m [] ≡ m
-nothing_cascades m f = cascade_in_turn m [] (posts m (mostly m f)) ∙ ap (ended_in_turn m) (nothing_listed m.table m.counted f.unmet)
+nothing_cascades m f = none_complete m f.mostly.rings.flags f.unmet
+
+-- A submission without direct completions completes nothing.
+pub only_taken : (m : Machine) (k : ℕ) → WellFormed m → direct_of m.world (length m.table) (entries_for m k) ≡ [] → submitted m k ≡ taken m k
+only_taken m k f h = ap (cascaded (taken m k)) h ∙ none_complete (taken m k) f.mostly.rings.flags (λ r x e. by r x (old_or_new m.table (rows_of m.world (length m.table) (entries_for m k)) r x e))
+  where
+    by : (r : ℕ) (x : Row) → (slice_get m.table r ≡ Some x) ⊎ ((i : ℕ) × (r ≡ length m.table + i) × (slice_get (rows_of m.world (length m.table) (entries_for m k)) i ≡ Some x)) → is_met m.counted x ≡ false
+    by r x (inl e) = f.unmet r x e
+    by r x (inr e) = ap (is_met m.counted) (became m.world (length m.table) (entries_for m k) e.0 x e.2).is
 
 -- ---- Nothing is consumed
 
 no_entries : (b : Bool) (v : WorldState) (w : SubWords) → taken_entries b v w 0 ≡ []
 no_entries true v w = refl
 no_entries false v w = refl
-
-empty : {X : Type 0} (xs : List X) → length xs ≡ 0 → xs ≡ []
-empty [] h = refl
-empty (x ∷ xs) h = absurd (omega (arith, h))
 
 no_words : (m : Machine) → words_for m 0 ≡ []
 no_words m = let l = length-taken_words m.submit_all m.world m.submissions 0 in empty (words_for m 0) (omega (arith, l))

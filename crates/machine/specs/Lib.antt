@@ -3,7 +3,7 @@ pub mod Submission
 pub mod Whole
 pub mod Cancels
 pub mod Steps
-pub mod InTurn
+pub mod Plans
 pub mod Refusals
 pub mod Runs
 pub mod Deadlines

@@ -29,7 +29,7 @@ use Rattle.sqpoll.specs.declared.poller.Poller.TheVariants.{Awake, Asleep}
 use Rattle.sqpoll.specs.Pollers.{is_awake}
 use Rattle.links_drains.specs.Batches.{rows_of, direct_of}
 use Rattle.links_drains.specs.Eligible.{is_eligible}
-use Rattle.links_drains.specs.Endings.{Ending, ecanceled, result_in}
+use Rattle.links_drains.specs.Endings.{Ending, ecanceled, ended_by}
 use Rattle.links_drains.specs.Links.{has_flag, is_guard}
 use Rattle.links_drains.specs.Numbered.{map_numbered}
 use Rattle.links_drains.specs.Phases.{is_issued, is_queued}
@@ -219,10 +219,6 @@ completion_of res row = record { user_data = row.entry.user_data; res = res; fla
 abbrev pub completions_of : List Row → List Ending → List Cqe
 completions_of rows es =
     filter_map (λ (e : Ending). option_map (completion_of e.1) (slice_get rows e.0)) es
-
--- A request, after the listed ones completed.
-abbrev pub ended_by : List Ending → ℕ → Row → Row
-ended_by es r row = option_map_or (λ res. record row { phase = Ended res }) (result_in es r) row
 
 -- The machine after the listed requests completed, each with its result. Their completions are
 -- posted in the order of the list, and counted for TIMEOUTs.

@@ -5,10 +5,17 @@ use Rattle.entries.specs.declared.entry.Sqe.{Sqe}
 use Rattle.links_drains.specs.Batches.{halts, taken_of}
 use Rattle.model_files.specs.Worlds.{WorldState}
 use Rattle.ring_words.specs.Rings.{SubWords, sub_list}
+use Rattle.machine.specs.declared.submitting.Entries.{Entries}
+use Rattle.machine.specs.declared.submitting.Entries.TheVariants.{One, Many}
 
 -- The entries that index words refer to. A word out of range refers to none.
 abbrev pub entries_at : List Sqe → List ℕ → List Sqe
 entries_at slots words = filter_map (slice_get slots) words
+
+-- The entries of a submission, as a list.
+abbrev pub items_of : Entries → List Sqe
+items_of (One entry) = entry ∷ []
+items_of (Many entries) = entries.items
 
 -- The words up to and including that of the n-th entry.
 abbrev pub up_to_entry : List Sqe → ℕ → List ℕ → List ℕ

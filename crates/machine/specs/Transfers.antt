@@ -1,5 +1,5 @@
 -- How many bytes a READ or WRITE transfers in full.
-use Rattle.std.specs.Prelude.{ℤ, pos, negsuc, ℕ, Bool, ◌&&◌, if◌then◌else◌, Option, Some, None, slice_get}
+use Rattle.std.specs.Prelude.{pos, negsuc, ℕ, Bool, ◌&&◌, if◌then◌else◌, Option, Some, None, slice_get}
 use Rattle.std.specs.Option.{option_map_or}
 use Rattle.entries.specs.declared.row.Row.{Row}
 use Rattle.entries.specs.declared.choice.Choice.TheVariants.{Full}

@@ -1,11 +1,10 @@
 //! Completes ASYNC_CANCEL, POLL_REMOVE and TIMEOUT_REMOVE, and the requests that they cancel
 //! (io_uring_enter(2)).
-ghost use Rattle.std.specs.Prelude.{◌≡◌, ◌≤◌, nat_lt, IfOk, OnOk, Some, false, length, slice_get};
-ghost use Rattle.entries.specs.declared.row.Row.{Row};
-ghost use Rattle.links_drains.specs.Phases.{is_ended};
+ghost use Rattle.std.specs.Prelude.{◌≡◌, ◌≤◌, nat_lt, IfOk, OnOk, length};
 ghost use Rattle.places.specs.View.{Keeps};
 ghost use Rattle.machine.specs.Cancels.{key_of, takes_all, on_found, verdict_of, canceled, ending_with};
-ghost use Rattle.machine.specs.Steps.{cancelled};
+ghost use Rattle.machine.specs.Plans.{CanDo, planned};
+ghost use Rattle.machine.specs.declared.planning.Plan.TheVariants.{Cancel};
 ghost use Rattle.machine.specs.Whole.{view, everywhere, Grows, WellFormed};
 
 use crate::whole::Machine;
@@ -25,21 +24,16 @@ struct Verdict {
 
 impl Machine {
     /// Completes a cancellation or a removal, the requests that it cancels, and their cascade.
-    pub(crate) fn cancel(
-        &mut self,
-        r: u32,
-        entry: &Sqe,
-        notes: &mut Recorder,
-    ) -> Result<(), AllocError>
-        requires there { (row : Row) × (slice_get self.old.table r ≡ Some row)
-            × (is_ended row.phase ≡ false) }
+    pub(crate) fn cancel(&mut self, r: u32, notes: &mut Recorder) -> Result<(), AllocError>
+        requires can { CanDo self.old (Cancel r) }
         requires formed { WellFormed self.old }
-        ensures ok { OnOk result (self.new ≡ cancelled self.old r entry.now) }
+        ensures ok { OnOk result (self.new ≡ planned self.old (Cancel r)) }
         ensures grows { Grows self.old self.new }
         ensures keeps { Keeps everywhere (view self.old)
             (view self.new) notes.old.made notes.new.made }
     {
-        let verdict = self.verdict(r, entry)?;
+        let entry = self.table.row(r).entry;
+        let verdict = self.verdict(r, &entry)?;
         let direct = ending_with(self.table.allocator(), r, &verdict)?;
         self.cascade(&direct, notes)
     }

@@ -205,12 +205,11 @@ impl Machine {
             (view self.new) notes.old.made notes.new.made }
     {
         notes.room(1)?;
-        let Some(poller) = &mut self.poller else {
-            unreachable!()
-        };
-        match stage {
-            Poller::Asleep => poller.sleep(&mut self.submissions, notes),
-            Poller::Awake => poller.wake(&mut self.submissions, notes),
+        if let Some(poller) = &mut self.poller {
+            match stage {
+                Poller::Asleep => poller.sleep(&mut self.submissions, notes),
+                Poller::Awake => poller.wake(&mut self.submissions, notes),
+            }
         }
         Ok(())
     }

@@ -8,13 +8,15 @@ ghost use Rattle.places.specs.View.{Keeps, named};
 ghost use Rattle.places.specs.declared.place.Place.{Place};
 ghost use Rattle.machine.specs.Steps.{after, base_of, deadline_of, refusal, held_by, is_guard_of, number_in, lacks_descriptor, is_usable, started};
 ghost use Rattle.machine.specs.Whole.{view, everywhere, Grows, IsTime, WellFormed};
-ghost use Rattle.scenario.specs.declared.event.Event.TheVariants.{Issue, Finish};
+ghost use Rattle.scenario.specs.declared.event.Event.TheVariants.{Issue};
+ghost use Rattle.machine.specs.Plans.{CanDo, planned};
+ghost use Rattle.machine.specs.declared.planning.Plan.TheVariants.{Complete};
 
 use crate::whole::Machine;
 use entries::{EBADF, IORING_TIMEOUT_ABS, Phase, Row};
 use links_drains::is_guard;
 use model_files::{DescriptorState, World};
-use opcodes::{Choice, Op, Outcome, carry_out, fits_end, is_cancel, outcome, uses_descriptor};
+use opcodes::{Choice, Op, Outcome, carry_out, fits_end, outcome, uses_descriptor};
 use places::Recorder;
 use std::alloc::AllocError;
 
@@ -73,28 +75,22 @@ impl Machine {
         }
     }
 
-    /// Completes an issued request with the chosen outcome, and its cascade.
-    pub(crate) fn finish(
+    /// Completes an issued request with a result, after its effect, and its cascade.
+    pub(crate) fn complete(
         &mut self,
         r: u32,
-        choice: Choice,
+        res: i32,
         notes: &mut Recorder,
     ) -> Result<(), AllocError>
-        requires accepted { refusal self.old (Finish r choice) ≡ None }
+        requires can { CanDo self.old (Complete r res) }
         requires formed { WellFormed self.old }
         requires fresh { (p : Place) → named notes.old.made p ≡ None }
-        ensures ok { OnOk result (self.new ≡ after self.old (Finish r choice)) }
+        ensures ok { OnOk result (self.new ≡ planned self.old (Complete r res)) }
         ensures grows { Grows self.old self.new }
         ensures keeps { Keeps everywhere (view self.old)
             (view self.new) notes.old.made notes.new.made }
     {
         let row = self.table.row(r);
-        if is_cancel(row.entry.opcode) {
-            return self.cancel(r, &row.entry, notes);
-        }
-        let Outcome::Res(res) = self.outcome(&row, choice) else {
-            unreachable!()
-        };
         carry_out(&mut self.world, &row, res, notes)?;
         self.cascade(&[(r, res)], notes)
     }

@@ -7,7 +7,6 @@ ghost use Rattle.opcodes.specs.Opcodes.{is_timer};
 ghost use Rattle.places.specs.declared.place.Place.{Place};
 ghost use Rattle.machine.specs.Whole.{view, OneSetup, WellFormed};
 ghost use Rattle.timeouts_cancel.specs.Cascades.{fall_of, IsWhole};
-ghost use Rattle.machine.specs.InTurn.{ended_in_turn};
 ghost use Rattle.machine.specs.Refusals.{has_cause, number_of};
 ghost use Rattle.machine.specs.Steps.{refusal, after, answered, before_submission, deadline_of, executed, cascaded, taken};
 ghost use Rattle.machine.specs.declared.whole.Machine.{Machine};
@@ -39,19 +38,6 @@ pub fn cascades_whole()
 pub fn submissions_cascade_whole()
     ensures { (m : Machine) (k : ℕ) (direct : List Ending) → WellFormed m
         → IsWhole (taken m k).table m.counted direct (fall_of (taken m k).table m.counted direct) }
-{}
-
-/// To complete a cascade at once is the same as to complete its requests one after the other.
-pub fn cascades_in_turn()
-    ensures { (m : Machine) (direct : List Ending) → WellFormed m
-        → cascaded m direct ≡ ended_in_turn m (fall_of m.table m.counted direct) }
-{}
-
-/// The same after the entries of a submission became requests.
-pub fn submissions_cascade_in_turn()
-    ensures { (m : Machine) (k : ℕ) (direct : List Ending) → WellFormed m
-        → cascaded (taken m k) direct
-        ≡ ended_in_turn (taken m k) (fall_of (taken m k).table m.counted direct) }
 {}
 
 /// A submission begins with a well-formed machine, after overflowed completions moved into the

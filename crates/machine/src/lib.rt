@@ -9,6 +9,7 @@ mod expiring;
 mod finishing;
 pub mod laws;
 mod performing;
+mod planning;
 mod refusing;
 mod restoring;
 mod starting;

@@ -1,37 +1,40 @@
-//! Carries out accepted events.
+//! Carries out plans.
 ghost use Rattle.std.specs.Prelude.{◌≡◌, OnOk, None};
 ghost use Rattle.places.specs.View.{Keeps, named};
 ghost use Rattle.places.specs.declared.place.Place.{Place};
 ghost use Rattle.machine.specs.Steps.{after, refusal, submission_refusal, submitted};
+ghost use Rattle.machine.specs.Plans.{CanDo, planned};
 ghost use Rattle.machine.specs.Whole.{view, everywhere, Grows, WellFormed};
 ghost use Rattle.scenario.specs.declared.event.Event.TheVariants.{Tick, Step};
 
+use crate::planning::Plan;
 use crate::whole::Machine;
 use places::{Place, Recorder, Stage};
-use scenario::{Event, Instruction};
+use scenario::Instruction;
 use sqpoll::Poller;
 use std::alloc::AllocError;
 
 impl Machine {
-    /// Carries out an accepted event. If an allocation fails, the machine may be half changed;
-    /// undoing the notes restores it.
-    pub(crate) fn perform(&mut self, event: Event, notes: &mut Recorder) -> Result<(), AllocError>
-        requires accepted { refusal self.old event ≡ None }
+    /// Carries out a plan. If an allocation fails, the machine may be half changed; undoing the
+    /// notes restores it.
+    pub(crate) fn perform(&mut self, plan: Plan, notes: &mut Recorder) -> Result<(), AllocError>
+        requires can { CanDo self.old plan }
         requires formed { WellFormed self.old }
         requires fresh { (p : Place) → named notes.old.made p ≡ None }
-        ensures ok { OnOk result (self.new ≡ after self.old event) }
+        ensures ok { OnOk result (self.new ≡ planned self.old plan) }
         ensures grows { Grows self.old self.new }
         ensures keeps { Keeps everywhere (view self.old)
             (view self.new) notes.old.made notes.new.made }
     {
-        match event {
-            Event::Step(t) => self.step_thread(t, notes),
-            Event::Issue(r) => self.issue(r, notes),
-            Event::Finish(r, choice) => self.finish(r, choice, notes),
-            Event::Tick(d) => self.tick(d, notes),
-            Event::Take(n) => self.submit_for_poller(n, notes),
-            Event::Sleep => self.set_poller(Poller::Asleep, notes),
-            Event::Expire(r) => self.expire(r, notes),
+        match plan {
+            Plan::Resume(t) => self.step_thread(t, notes),
+            Plan::Submit(n) => self.submit_for_poller(n, notes),
+            Plan::Rest => self.set_poller(Poller::Asleep, notes),
+            Plan::Start(r) => self.issue(r, notes),
+            Plan::Cancel(r) => self.cancel(r, notes),
+            Plan::Complete(r, res) => self.complete(r, res, notes),
+            Plan::TimeOut(r) => self.expire(r, notes),
+            Plan::Advance(d) => self.tick(d, notes),
         }
     }
 
@@ -72,13 +75,13 @@ impl Machine {
             (view self.new) notes.old.made notes.new.made }
     {
         let Some(thread) = self.threads.get(t) else {
-            unreachable!()
+            return Ok(());
         };
         if let Stage::Waiting(n, _) = thread.stage() {
             return self.threads.answer(t, i64::from(n), notes);
         }
         let Some(instruction) = thread.next() else {
-            unreachable!()
+            return Ok(());
         };
         match instruction {
             Instruction::Put(slot, entry) => {

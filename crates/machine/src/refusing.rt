@@ -1,15 +1,15 @@
 //! Decides whether an event is possible in the current state.
 ghost use Rattle.std.specs.Prelude.{◌≡◌, ℕ, Some, slice_get, length, min};
-ghost use Rattle.links_drains.specs.Holding.{is_held_by};
 ghost use Rattle.ring_words.specs.Rings.{sub_list};
-ghost use Rattle.machine.specs.Steps.{refusal, next_refusal, instruction_refusal, enter_refusal, alone_refusal, submission_refusal, take_refusal, sleep_refusal, issue_refusal, finish_refusal, expire_refusal, choice_refusal, full_refusal, outcome_refusal, is_busy, flushed};
+ghost use Rattle.machine.specs.Steps.{refusal, next_refusal, instruction_refusal, enter_refusal, alone_refusal, submission_refusal, take_refusal, sleep_refusal, issue_refusal, expire_refusal, full_refusal, is_busy, flushed};
 ghost use Rattle.machine.specs.Submission.{offered};
 ghost use Rattle.machine.specs.Whole.{WellFormed};
+ghost use Rattle.scenario.specs.declared.event.Event.TheVariants.{Step, Tick};
 
 use crate::whole::Machine;
 use entries::{Phase, Row};
 use links_drains::is_issued;
-use opcodes::{Choice, Outcome, is_cancel, is_timer};
+use opcodes::{Choice, is_timer};
 use places::Stage;
 use scenario::{Event, Instruction, Refusal};
 use sqpoll::Poller;
@@ -21,26 +21,29 @@ impl Machine {
         requires formed { WellFormed self.now }
         ensures { result ≡ refusal self.now event }
     {
-        match event {
-            Event::Step(t) => match self.threads.get(t) {
-                None => Some(Refusal::NoSuchThread),
-                Some(thread) => match thread.next() {
-                    None => Some(Refusal::ThreadDone),
-                    Some(instruction) => self.refuses_next(thread.stage(), instruction),
-                },
-            },
-            Event::Take(n) => self.refuses_take(n),
-            Event::Sleep => self.refuses_sleep(),
-            Event::Issue(r) => self.refuses_issue(r),
-            Event::Finish(r, choice) => self.refuses_finish(r, choice),
-            Event::Expire(r) => self.refuses_expire(r),
-            Event::Tick(d) => {
-                if d > u64::MAX - self.clock {
-                    Some(Refusal::ClockFull)
-                } else {
-                    None
-                }
-            }
+        self.plan(event).err()
+    }
+
+    pub(crate) fn refuses_step(&self, t: u32) -> Option<Refusal>
+        requires formed { WellFormed self.now }
+        ensures { result ≡ refusal self.now (Step t) }
+    {
+        let Some(thread) = self.threads.get(t) else {
+            return Some(Refusal::NoSuchThread);
+        };
+        match thread.next() {
+            None => Some(Refusal::ThreadDone),
+            Some(instruction) => self.refuses_next(thread.stage(), instruction),
+        }
+    }
+
+    pub(crate) fn refuses_tick(&self, d: u64) -> Option<Refusal>
+        ensures { result ≡ refusal self.now (Tick d) }
+    {
+        if d > u64::MAX - self.clock {
+            Some(Refusal::ClockFull)
+        } else {
+            None
         }
     }
 
@@ -60,7 +63,7 @@ impl Machine {
         }
     }
 
-    fn refuses_take(&self, n: u32) -> Option<Refusal>
+    pub(crate) fn refuses_take(&self, n: u32) -> Option<Refusal>
         ensures { result ≡ take_refusal self.now self.now.poller n }
     {
         match self.poller {
@@ -70,7 +73,7 @@ impl Machine {
         }
     }
 
-    fn refuses_sleep(&self) -> Option<Refusal>
+    pub(crate) fn refuses_sleep(&self) -> Option<Refusal>
         ensures { result ≡ sleep_refusal self.now self.now.poller }
     {
         match self.poller {
@@ -165,7 +168,7 @@ impl Machine {
         to_submit.min(self.submissions.waiting())
     }
 
-    fn refuses_issue(&self, r: u32) -> Option<Refusal>
+    pub(crate) fn refuses_issue(&self, r: u32) -> Option<Refusal>
         requires formed { WellFormed self.now }
         ensures { result ≡ issue_refusal self.now.table r (slice_get self.now.table r) }
     {
@@ -182,41 +185,13 @@ impl Machine {
         }
     }
 
-    fn refuses_finish(&self, r: u32, choice: Choice) -> Option<Refusal>
-        requires formed { WellFormed self.now }
-        ensures { result ≡ finish_refusal (is_held_by self.now.table) self.now.world
-            (slice_get self.now.table r) choice }
-    {
-        let Some(row) = self.table.get(r) else {
-            return Some(Refusal::NoSuchRequest);
-        };
-        if is_timer(row.entry.opcode) {
-            return Some(Refusal::WrongPhase);
-        }
-        match row.phase {
-            Phase::Issued => self.refuses_choice(&row, choice),
-            _ => Some(Refusal::WrongPhase),
-        }
-    }
-
-    fn refuses_expire(&self, r: u32) -> Option<Refusal>
+    pub(crate) fn refuses_expire(&self, r: u32) -> Option<Refusal>
         ensures { result ≡ expire_refusal self.now.clock (slice_get self.now.table r) }
     {
         match self.table.get(r) {
             Some(row) => refuses_expiry(self.clock, &row),
             None => Some(Refusal::NoSuchRequest),
         }
-    }
-
-    // Why an issued request cannot complete as chosen.
-    fn refuses_choice(&self, row: &Row, choice: Choice) -> Option<Refusal>
-        ensures { result ≡ choice_refusal
-            (is_held_by self.now.table) self.now.world row.now choice }
-    {
-        if is_cancel(row.entry.opcode) {
-            return refuses_a_part(choice);
-        }
-        refuses_outcome(self.outcome(row, choice))
     }
 }
 
@@ -235,21 +210,11 @@ fn refuses_expiry(clock: u64, row: &Row) -> Option<Refusal>
 }
 
 // A cancellation or a removal can only complete in full.
-fn refuses_a_part(choice: Choice) -> Option<Refusal>
+pub(crate) fn refuses_a_part(choice: Choice) -> Option<Refusal>
     ensures { result ≡ full_refusal choice }
 {
     match choice {
         Choice::Full => None,
         Choice::Short(_) | Choice::Eio => Some(Refusal::BadChoice),
-    }
-}
-
-fn refuses_outcome(outcome: Outcome) -> Option<Refusal>
-    ensures { result ≡ outcome_refusal outcome }
-{
-    match outcome {
-        Outcome::Res(_) => None,
-        Outcome::Waits => Some(Refusal::NotReady),
-        Outcome::BadChoice => Some(Refusal::BadChoice),
     }
 }

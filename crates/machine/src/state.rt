@@ -134,10 +134,8 @@ impl State {
         ensures err { OnErr result (self.new ≡ self.old) }
         ensures formed { WellFormed self.old }
     {
-        if let Some(n) = self.machine.refuses(event) {
-            return Err(n);
-        }
-        let done = self.machine.perform(event, &mut self.notes);
+        let plan = self.machine.plan(event)?;
+        let done = self.machine.perform(plan, &mut self.notes);
         let past = self.notes.finish(&self.machine);
         match done {
             Ok(()) => Ok(past),

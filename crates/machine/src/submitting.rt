@@ -3,7 +3,7 @@ ghost use Rattle.std.specs.Prelude.{◌≡◌, ◌+◌, ◌≤◌, if◌then◌e
 ghost use Rattle.places.specs.View.{Keeps};
 ghost use Rattle.ring_words.specs.Rings.{sub_list};
 ghost use Rattle.links_drains.specs.Batches.{direct_of};
-ghost use Rattle.machine.specs.Submission.{offered, offered_entries, entries_at, up_to_entry};
+ghost use Rattle.machine.specs.Submission.{items_of, offered, offered_entries, entries_at, up_to_entry};
 ghost use Rattle.machine.specs.Steps.{entries_for, submission_refusal, submitted, taken};
 ghost use Rattle.machine.specs.Whole.{view, everywhere, Grows, WellFormed};
 
@@ -12,6 +12,7 @@ use entries::Sqe;
 use links_drains::Batch;
 use places::Recorder;
 use std::alloc::AllocError;
+use std::slice::from_ref;
 
 impl Machine {
     /// Submits at most `to_submit` entries. Returns how many became requests.
@@ -25,6 +26,9 @@ impl Machine {
             (view self.new) notes.old.made notes.new.made }
     {
         let batch = self.take(to_submit, notes)?;
+        if batch.direct.is_empty() {
+            return Ok(batch.taken);
+        }
         self.cascade(&batch.direct, notes)?;
         Ok(batch.taken)
     }
@@ -45,7 +49,7 @@ impl Machine {
         let entries = self.entries_named(offered)?;
         let batch = self
             .table
-            .take_batch(&entries, &self.world, self.submit_all, notes)?;
+            .take_batch(entries.as_slice(), &self.world, self.submit_all, notes)?;
         let count = self.word_count(offered, batch.taken, batch.halted);
         notes.room_for_numbers(2)?;
         self.submissions
@@ -96,7 +100,20 @@ impl Machine {
     }
 
     // Returns the entries that the first `count` words refer to. Words out of range refer to none.
-    fn entries_named(&self, count: u32) -> Result<Vec<Sqe>, AllocError>
+    fn entries_named(&self, count: u32) -> Result<Entries, AllocError>
+        requires { count ≤ length (sub_list self.now.submissions) }
+        ensures { IfOk result (λ entries. items_of entries
+            ≡ entries_at self.now.submissions.slots (offered self.now.submissions count)) }
+    {
+        if count == 1 {
+            if let Some(entry) = self.submissions.entry(self.submissions.word(0)) {
+                return Ok(Entries::One(entry));
+            }
+        }
+        Ok(Entries::Many(self.list_entries(count)?))
+    }
+
+    fn list_entries(&self, count: u32) -> Result<Vec<Sqe>, AllocError>
         requires { count ≤ length (sub_list self.now.submissions) }
         ensures { IfOk result (λ entries. entries.items
             ≡ entries_at self.now.submissions.slots (offered self.now.submissions count)) }
@@ -108,5 +125,23 @@ impl Machine {
             }
         }
         Ok(entries)
+    }
+}
+
+/// The entries of a submission. A single one needs no allocation.
+#[derive(Drop)]
+enum Entries {
+    One(Sqe),
+    Many(Vec<Sqe>),
+}
+
+impl Entries {
+    fn as_slice(&self) -> &[Sqe]
+        ensures { result.now ≡ items_of self.now }
+    {
+        match self {
+            Entries::One(entry) => from_ref(entry),
+            Entries::Many(entries) => entries.as_slice(),
+        }
     }
 }

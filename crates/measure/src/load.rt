@@ -2,7 +2,9 @@
 
 use crate::draft::{BATCH, Draft};
 use crate::plan::{Plan, Word};
-use entries::{IORING_ASYNC_CANCEL_ALL, IOSQE_IO_DRAIN, IOSQE_IO_LINK, POLLIN, Sqe};
+use entries::{
+    IORING_ASYNC_CANCEL_ALL, IORING_ASYNC_CANCEL_FD, IOSQE_IO_DRAIN, IOSQE_IO_LINK, POLLIN, Sqe,
+};
 use machine::{Event, Instruction};
 use opcodes::{Choice, Op};
 use places::{Contents, Descriptor, End, Items, Object};
@@ -24,6 +26,9 @@ const ENDED: u32 = 100;
 /// The user_data of the only request that a cancel targets. All others have 0.
 const CANCELLED_USER: u64 = 9;
 
+/// The number of different user_data of other requests.
+const USERS: u32 = 4000;
+
 type Filled = Result<(), AllocError>;
 
 /// Fills a draft with the run of a plan.
@@ -39,6 +44,9 @@ pub fn fill(draft: &mut Draft, Plan { word, size }: Plan) -> Result<(), AllocErr
         Word::Links => turns(draft, flagged(nop, IOSQE_IO_LINK), size),
         Word::Drains => turns(draft, flagged(nop, IOSQE_IO_DRAIN), size),
         Word::Cancels => cancels(draft, size),
+        Word::Distinct => distinct(draft, size),
+        Word::Shared => shared(draft, size),
+        Word::Held => held(draft, size),
         Word::Counts => two_slots(draft, &[nop, entry(Op::Timeout, 1, FAR)], ENDED, size, &[]),
         Word::Meets => meets(draft, size),
         Word::Cascade => two_slots(draft, &[cancel_all, entry(Op::Timeout, 1, 0)], 1, size, &[]),
@@ -111,6 +119,52 @@ fn cancels(draft: &mut Draft, rows: u32) -> Filled {
     cancelled.user_data = CANCELLED_USER;
     let entries = [cancel, entry(Op::Timeout, 1, 0), cancelled];
     two_slots(draft, &entries, ENDED, rows.saturating_sub(1), &[2])
+}
+
+// The same, but the other requests have 4,000 different user_data.
+fn distinct(draft: &mut Draft, rows: u32) -> Filled {
+    let (mut cancel, mut cancelled) = (entry(Op::AsyncCancel, 0, 0), entry(Op::Nop, 0, 0));
+    cancel.addr = CANCELLED_USER;
+    cancelled.user_data = CANCELLED_USER;
+    let mut entries = Vec::from_slice(draft.alloc, &[cancel, cancelled])?;
+    for user in 0..USERS {
+        let mut other = entry(Op::Timeout, 1, 0);
+        other.user_data = CANCELLED_USER + 1 + u64::from(user);
+        entries.push(other)?;
+    }
+    let mut slots = vec![in draft.alloc; 0u32; ENDED as usize]?;
+    for row in 1..rows {
+        slots.push(2 + row % USERS)?;
+    }
+    slots.push(1)?;
+    submit(draft, &entries, &slots)?;
+    finish(draft, &slots, u32::MAX)
+}
+
+// Each cancel finds and cancels the first of many requests with one user_data.
+fn shared(draft: &mut Draft, rows: u32) -> Filled {
+    let (mut cancel, mut other) = (entry(Op::AsyncCancel, 0, 0), entry(Op::Timeout, 1, 0));
+    cancel.addr = CANCELLED_USER;
+    other.user_data = CANCELLED_USER;
+    two_slots(draft, &[cancel, other], ENDED, rows, &[])
+}
+
+// Each cancel finds the last READ by its descriptor. All others hold another descriptor.
+fn held(draft: &mut Draft, rows: u32) -> Filled {
+    let page = vec![in draft.alloc; 1u8; 4096]?;
+    open(draft, Contents::File(Items::from_vec(page)), 2)?;
+    let read = entry(Op::Read, 1, 0);
+    let (mut cancel, mut cancelled) = (entry(Op::AsyncCancel, 0, 0), read);
+    cancel.operation_flags = IORING_ASYNC_CANCEL_FD;
+    cancel.fd = 4;
+    cancelled.fd = 4;
+    two_slots(
+        draft,
+        &[cancel, read, cancelled],
+        ENDED,
+        rows.saturating_sub(1),
+        &[2],
+    )
 }
 
 // Each NOP completes one TIMEOUT: one TIMEOUT waits for one completion, one for two, and so on.

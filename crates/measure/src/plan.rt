@@ -2,7 +2,7 @@
 
 /// The usage message. A number in parentheses is the maximum of N.
 pub const WORDS: &str =
-    "measure full N (1048576 at most) | nops N | transfers N | issues N | polls N | links N | drains N | cancels N | counts N | meets N | cascade N | met N | severed N (65334)";
+    "measure full N (1048576 at most) | nops N | transfers N | issues N | polls N | links N | drains N | cancels N | distinct N | shared N | held N | counts N | meets N | cascade N | met N | severed N (65334)";
 
 /// The maximum number of events in a trace.
 const MOST_EVENTS: u32 = 1048576;
@@ -31,6 +31,12 @@ pub enum Word {
     Drains,
     /// 100 cancels with N issued requests. Each finds the last request, which is running.
     Cancels,
+    /// The same, but the other requests have 4,000 different user_data.
+    Distinct,
+    /// 100 cancels with N issued requests, all with one user_data. Each cancels the first.
+    Shared,
+    /// 100 cancels by descriptor with N issued requests. Each finds the last, which is running.
+    Held,
     /// 100 NOPs that complete while N TIMEOUTs wait for a number of completions that isn't reached.
     Counts,
     /// The same, but each NOP completes one TIMEOUT.
@@ -59,7 +65,8 @@ impl Plan {
             Word::Full => None,
             Word::Nops | Word::Transfers => Some((self.size as usize, 1)),
             Word::Cascade | Word::Met | Word::Severed => Some((1, 20)),
-            Word::Cancels | Word::Counts | Word::Meets => Some((100, 200)),
+            Word::Cancels | Word::Distinct | Word::Shared | Word::Held => Some((100, 200)),
+            Word::Counts | Word::Meets => Some((100, 200)),
             _ => Some((200, 200)),
         }
     }
@@ -75,6 +82,9 @@ fn word_of(name: &str) -> Option<Word> {
         "links" => Word::Links,
         "drains" => Word::Drains,
         "cancels" => Word::Cancels,
+        "distinct" => Word::Distinct,
+        "shared" => Word::Shared,
+        "held" => Word::Held,
         "counts" => Word::Counts,
         "meets" => Word::Meets,
         "cascade" => Word::Cascade,

@@ -1,15 +1,5 @@
 -- Counting the requests and the overflowed completions of a machine.
-use Rattle.std.proofs.Common.{◌≡◌, ℕ, ◌+◌, ◌∙◌, sym, ◌<◌, ◌≤◌, zero, suc, true, false, ap, List, [], ◌∷◌, ◌++◌, length, map, take, get_or, refl, arith}
-use Rattle.std.specs.Prelude.{Option, Some, None, is_some, option_map, slice_get}
-use Rattle.std.proofs.lemmas.List.{take_more}
-use Rattle.std.proofs.lemmas.Option.{slice_get_within, slice_get-get_or}
-use Rattle.std.proofs.lemmas.List.Sums.{length-filter, count_by-le-length}
-use Rattle.entries.specs.declared.row.Row.{Row}
-use Rattle.links_drains.specs.Phases.{is_ended}
-use Rattle.places.specs.declared.value.Value.{Value}
-use Rattle.places.specs.declared.value.Value.TheVariants.{Requested}
-use Rattle.machine.specs.declared.whole.Machine.{Machine}
-use Rattle.machine.specs.Whole.{WellFormed}
+use Rattle.occupancy.proofs.Common.{◌≡◌, ℕ, ◌+◌, ◌<◌, ◌≤◌, zero, suc, true, false, List, [], ◌∷◌, ◌++◌, length, map, take, refl, Option, Some, None, is_some, option_map, slice_get, Row, is_ended, Value, Requested, Machine, WellFormed, ap, arith, length-filter, count_by-le-length}
 
 -- An index with a value is within the list.
 pub within_list : {X : Type 0} (f : X → Value) (xs : List X) (i : ℕ) (o : Option Value) → o ≡ option_map f (slice_get xs i) → is_some o ≡ true → i < length xs
@@ -35,16 +25,6 @@ few_kept m f =
 pub requested_is : (o : Option Row) (row : Row) → option_map Requested o ≡ Some (Requested row) → o ≡ Some row
 requested_is None row h = absurd cc
 requested_is (Some x) row h = let e : x ≡ row = cc in ap Some e
-
-some_is : {X : Type 0} (y z : X) → Some y ≡ Some z → y ≡ z
-some_is y z e = cc
-
--- The elements up to and including an index.
-pub take_next : {X : Type 0} (xs : List X) (i : ℕ) (x : X) → slice_get xs i ≡ Some x → take (i + 1) xs ≡ take i xs ++ x ∷ []
-take_next xs i x h =
-    let l = slice_get_within xs i x h in
-    let e : get_or xs i x ≡ x = some_is _ _ (sym (slice_get-get_or xs i x l) ∙ h) in
-    take_more xs i x l ∙ ap (λ y. take i xs ++ y ∷ []) e
 
 -- Mapping one more element, if there is one.
 pub map_next : {X Y : Type 0} (f : X → Y) (xs : List X) (i : ℕ) (y : Y) → option_map f (slice_get xs i) ≡ Some y → take (suc i) (map f xs) ≡ take i (map f xs) ++ y ∷ []

@@ -1,28 +1,6 @@
 -- The invariant of a follower: at the start, after each event, and at the end.
-use Rattle.std.proofs.Common.{◌≡◌, ℕ, zero, suc, ◌+◌, ◌<◌, ◌≤◌, Bool, true, false, refl, sym, ap, ◌∙◌, subst, List, [], ◌∷◌, ◌++◌, length, map, min, arith, eq-eqb, le_refl}
-use Rattle.std.specs.Prelude.{Option, Some, None, slice_get, ◌==◌, ◌&&◌, nat_le}
-use Rattle.std.proofs.lemmas.Bool.{eqb-true}
-use Rattle.std.proofs.lemmas.Bool.Decides.{nat_tests}
-use Rattle.std.proofs.lemmas.List.{length-map}
-use Rattle.places.specs.declared.value.Change.{Change}
-use Rattle.places.specs.View.{Exact}
-use Rattle.scenario.specs.Setups.{setup_refusal, has_programs}
-use Rattle.scenario.specs.declared.event.Event.{Event}
-use Rattle.scenario.specs.declared.setup.Setup.{Setup}
-use Rattle.machine.specs.declared.whole.Machine.{Machine}
-use Rattle.machine.specs.Threads.{program_of, thread_start}
-use Rattle.machine.specs.Whole.{view, Grows}
-use Rattle.machine.proofs.Growing.{grows_after}
-use Rattle.machine.proofs.StartLemmas.{accepted}
-use Rattle.machine.specs.Runs.{start, moment}
-use Rattle.occupancy.specs.declared.occupancy.Occupancy.{Occupancy}
-use Rattle.occupancy.specs.Fillings.{filling_of}
-use Rattle.occupancy.specs.Stamping.{stamps_after}
-use Rattle.occupancy.specs.declared.thread_stages.ThreadStages.{ThreadStages}
-use Rattle.occupancy.specs.Occupancies.{AreStamped, AreFilled, Follows, AreThreadStages, HasFollowed}
-use Rattle.runs.specs.Moments.{IsAt, IsAfter}
-use Rattle.std.proofs.lemmas.Option.{slice_get_within}
-use Rattle.occupancy.proofs.Moments.{Growing, are_stamped_more, are_filled_more}
+use Rattle.occupancy.proofs.Common.{◌≡◌, ℕ, zero, suc, ◌+◌, ◌≤◌, Bool, true, false, refl, List, [], ◌∷◌, ◌++◌, length, map, min, Some, None, slice_get, ◌==◌, ◌&&◌, nat_le, Change, Exact, setup_refusal, has_programs, Event, Setup, Machine, program_of, thread_start, view, Grows, start, moment, Occupancy, ThreadStages, IsAt, IsAfter, sym, ap, ◌∙◌, subst, arith, eq-eqb, le_refl, eqb-true, nat_tests, length-map, grows_after, accepted, filling_of, stamps_after, AreStamped, AreFilled, Follows, AreThreadStages, HasFollowed}
+use Rattle.occupancy.proofs.Moments.{Growing, are_filled_more, are_stamped_more}
 
 -- ---- the start
 

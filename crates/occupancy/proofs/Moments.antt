@@ -1,28 +1,6 @@
 -- Lifetimes and occupancy, extended by one moment.
-use Rattle.std.proofs.Common.{◌≡◌, ℕ, zero, suc, ◌+◌, ◌-◌, ◌<◌, ◌≤◌, inl, inr, Bool, true, false, cond, refl, sym, ap, ◌∙◌, subst, List, [], ◌∷◌, ◌++◌, length, arith, eq-eqb, length-append}
-use Rattle.std.specs.Prelude.{Option, Some, None, option_map, slice_get, replicate, ◌==◌}
-use Rattle.std.specs.Option.{option_map_or}
-use Rattle.std.proofs.lemmas.Bool.{eqb-true}
-use Rattle.std.proofs.lemmas.Option.{slice_get_within}
-use Rattle.entries.specs.declared.row.Row.{Row}
-use Rattle.entries.specs.declared.row.Phase.{Phase}
-use Rattle.entries.specs.declared.row.Phase.TheVariants.{Queued, Issued, Ended}
-use Rattle.links_drains.specs.Phases.{is_issued, is_ended}
-use Rattle.places.specs.declared.place.Place.TheVariants.{Request}
-use Rattle.places.specs.declared.value.Value.TheVariants.{Requested}
-use Rattle.places.specs.declared.value.Change.{Change}
-use Rattle.places.specs.View.{Exact}
-use Rattle.places.proofs.ListLemmas.{slice_get-push, slice_get_none}
-use Rattle.scenario.specs.declared.event.Event.{Event}
-use Rattle.scenario.specs.declared.setup.Setup.{Setup}
-use Rattle.machine.specs.Whole.{view}
-use Rattle.machine.specs.Runs.{moment}
-use Rattle.occupancy.specs.declared.filling.Filling.{Filling}
-use Rattle.occupancy.specs.declared.stamps.Stamps.{Stamps}
-use Rattle.occupancy.specs.Fillings.{filling_of}
-use Rattle.occupancy.specs.Stamping.{first_moment, new_stamps, stamped, stamp_changes, stamps_after}
-use Rattle.occupancy.specs.Occupancies.{has_row, any_phase, IsFirst, IsStamped, AreStamped, AreFilled}
-use Rattle.occupancy.proofs.Noting.{stamp_changes_length, changed_at, added_before, added_after, added_length}
+use Rattle.occupancy.proofs.Common.{◌≡◌, ℕ, zero, suc, ◌+◌, ◌-◌, ◌<◌, ◌≤◌, Bool, true, false, cond, refl, List, [], ◌∷◌, ◌++◌, length, Option, Some, None, option_map, slice_get, replicate, ◌==◌, option_map_or, Row, Phase, Queued, Issued, Ended, is_issued, is_ended, Request, Requested, Change, Exact, Event, Setup, view, moment, Filling, Stamps, inl, inr, sym, ap, ◌∙◌, subst, arith, eq-eqb, length-append, eqb-true, slice_get_within, slice_get-push, slice_get_none, same_Some, filling_of, first_moment, new_stamps, stamped, stamp_changes, stamps_after, has_row, any_phase, IsFirst, IsStamped, AreStamped, AreFilled}
+use Rattle.occupancy.proofs.Noting.{added_after, added_before, added_length, changed_at, stamp_changes_length}
 
 -- ---- first moments
 
@@ -132,9 +110,6 @@ requested_same None (Some y) h = absurd cc
 requested_same (Some x) None h = absurd cc
 requested_same (Some x) (Some y) h = let e : x ≡ y = cc in ap Some e
 
-some_same : {X : Type 0} (x y : X) → Some x ≡ Some y → x ≡ y
-some_same x y h = cc
-
 abbrev pub Growing : Setup → List Event → ℕ → Type 0
 Growing s es n = (i : ℕ) → i ≤ n → length (moment s es i).table ≤ length (moment s es n).table
 
@@ -159,8 +134,8 @@ are_stamped_more s es n past xs growing grows exact a = record { rows = rows; ea
         let was : IsStamped s es n r x = a.each r x e in
         let at : slice_get wide r ≡ Some x = added_before xs count (new_stamps (n + 1)) r (slice_get_within xs r x e) ∙ e in
         elim (changed_at (moment s es (n + 1)).table (n + 1) past wide r x row h at) [
-          | inl q ↦ let z = some_same _ _ (sym q ∙ k) in subst (IsStamped s es (n + 1) r) z (stamped_on s es n r x row was h)
-          | inr q ↦ let z = some_same _ _ (sym q.0 ∙ k) in subst (IsStamped s es (n + 1) r) z (stamped_still s es n r x was (sym (requested_same _ _ (exact.same (Request r) q.1))))
+          | inl q ↦ let z = same_Some _ _ (sym q ∙ k) in subst (IsStamped s es (n + 1) r) z (stamped_on s es n r x row was h)
+          | inr q ↦ let z = same_Some _ _ (sym q.0 ∙ k) in subst (IsStamped s es (n + 1) r) z (stamped_still s es n r x was (sym (requested_same _ _ (exact.same (Request r) q.1))))
         ]
     one r y row h k None e =
         let out : length xs ≤ r = slice_get_none xs r e in
@@ -169,7 +144,7 @@ are_stamped_more s es n past xs growing grows exact a = record { rows = rows; ea
         let none : (i : ℕ) → i ≤ n → length (moment s es i).table ≤ r = λ (i : ℕ) (b : i ≤ n). let g = growing i b in omega (arith, g, l, out) in
         let at : slice_get wide r ≡ Some (new_stamps (n + 1)) = added_after xs count (new_stamps (n + 1)) r out (omega (arith, in_it, l, grows, out)) in
         elim (changed_at (moment s es (n + 1)).table (n + 1) past wide r (new_stamps (n + 1)) row h at) [
-          | inl q ↦ let z = some_same _ _ (sym q ∙ k) in subst (IsStamped s es (n + 1) r) z (stamped_new s es n r row none h)
+          | inl q ↦ let z = same_Some _ _ (sym q ∙ k) in subst (IsStamped s es (n + 1) r) z (stamped_new s es n r row none h)
           | inr q ↦
               let still = requested_same _ _ (exact.same (Request r) q.1) in
               let gone = beyond (moment s es n).table r (omega (arith, l, out)) in

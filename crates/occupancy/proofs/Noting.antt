@@ -1,21 +1,5 @@
 -- How recording the requests of an undo record changes each lifetime.
-use Rattle.std.proofs.Common.{◌≡◌, ℕ, zero, suc, ◌+◌, ◌-◌, ◌<◌, ◌≤◌, ◌⊎◌, inl, inr, Bool, true, false, cond, refl, sym, ap, ◌∙◌, List, [], ◌∷◌, ◌++◌, length, get_or, arith, append_assoc}
-use Rattle.std.specs.Prelude.{Option, Some, None, slice_get, slice_set, replicate}
-use Rattle.std.proofs.lemmas.List.{replicate-append-replicate}
-use Rattle.std.proofs.lemmas.Option.{slice_get-get_or}
-use Rattle.entries.specs.declared.row.Row.{Row}
-use Rattle.entries.specs.declared.row.Phase.{Phase}
-use Rattle.entries.specs.declared.row.Phase.TheVariants.{Queued, Issued, Ended}
-use Rattle.places.specs.Lists.{updated}
-use Rattle.places.specs.declared.place.Place.{Place}
-use Rattle.places.specs.declared.place.Place.TheVariants.{Request}
-use Rattle.places.specs.declared.value.Change.{Change}
-use Rattle.places.specs.Places.{same_place}
-use Rattle.places.specs.View.{named}
-use Rattle.places.proofs.ListLemmas.{length-updated, updated_set}
-use Rattle.places.proofs.SamePlace.{same_place_is, same_place_self}
-use Rattle.occupancy.specs.declared.stamps.Stamps.{Stamps}
-use Rattle.occupancy.specs.Stamping.{first_moment, stamped, stamp_as, stamp_row, stamp_place, stamp_changes}
+use Rattle.occupancy.proofs.Common.{◌≡◌, ℕ, zero, suc, ◌+◌, ◌-◌, ◌<◌, ◌≤◌, ◌⊎◌, Bool, true, false, cond, refl, List, [], ◌∷◌, ◌++◌, length, get_or, Option, Some, None, slice_get, slice_set, replicate, Row, Phase, Queued, Issued, Ended, updated, Place, Request, Change, same_place, Stamps, inl, inr, sym, ap, ◌∙◌, arith, append_assoc, replicate-append-replicate, slice_get-get_or, length-updated, updated_set, same_place_is, same_place_self, named, first_moment, stamped, stamp_as, stamp_row, stamp_place, stamp_changes}
 
 -- ---- lists with one element changed
 

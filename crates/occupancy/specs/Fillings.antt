@@ -1,11 +1,5 @@
 -- How full the rings and the backlog are (io_uring(7)).
-use Rattle.std.specs.Prelude.{ℕ, length, Option, Some}
-use Rattle.places.specs.declared.value.Value.{Value}
-use Rattle.places.specs.declared.value.Value.TheVariants.{Number}
-use Rattle.ring_words.specs.Rings.{waiting}
-use Rattle.overflow.specs.Backlogs.{kept}
-use Rattle.machine.specs.declared.whole.Machine.{Machine}
-use Rattle.occupancy.specs.declared.filling.Filling.{Filling}
+use Rattle.occupancy.specs.Common.{ℕ, length, Option, Some, Value, Number, waiting, kept, Machine, Filling}
 
 -- The number in an optional value, or 0.
 abbrev pub number_in : Option Value → ℕ

@@ -1,18 +1,6 @@
 -- Queue occupancy and request lifetimes of a run, by its moments.
 use Rattle.std.specs.Prelude.{◌≡◌, ℕ, ◌+◌, ◌<◌, ◌≤◌, min, List, length, slice_get, take, map, Bool, true, false, Option, Some, None, option_map}
-use Rattle.std.specs.Option.{option_map_or}
-use Rattle.entries.specs.declared.row.Phase.{Phase}
-use Rattle.links_drains.specs.Phases.{is_issued, is_ended}
-use Rattle.scenario.specs.declared.event.Event.{Event}
-use Rattle.scenario.specs.declared.setup.Setup.{Setup}
-use Rattle.sqpoll.specs.Pollers.{is_awake}
-use Rattle.machine.specs.declared.whole.Machine.{Machine}
-use Rattle.machine.specs.Runs.{start, moment, Accepts}
-use Rattle.occupancy.specs.declared.occupancy.Occupancy.{Occupancy}
-use Rattle.occupancy.specs.declared.filling.Filling.{Filling}
-use Rattle.occupancy.specs.declared.following.Followed.{Followed}
-use Rattle.occupancy.specs.declared.stamps.Stamps.{Stamps}
-use Rattle.occupancy.specs.declared.thread_stages.ThreadStages.{ThreadStages}
+use Rattle.occupancy.specs.Common.{option_map_or, Phase, is_issued, is_ended, Event, Setup, is_awake, Machine, start, moment, Accepts, Occupancy, Filling, Followed, Stamps, ThreadStages}
 use Rattle.occupancy.specs.Fillings.{filling_of}
 
 -- ---- requests

@@ -1,13 +1,6 @@
 -- How request lifetimes are recorded, step by step.
 use Rattle.std.specs.Prelude.{ℕ, ◌-◌, ◌++◌, List, [], ◌∷◌, length, replicate, slice_get, Option, Some, None}
-use Rattle.entries.specs.declared.row.Row.{Row}
-use Rattle.entries.specs.declared.row.Phase.{Phase}
-use Rattle.entries.specs.declared.row.Phase.TheVariants.{Queued, Issued, Ended}
-use Rattle.places.specs.Lists.{updated}
-use Rattle.places.specs.declared.place.Place.{Place}
-use Rattle.places.specs.declared.place.Place.TheVariants.{Request}
-use Rattle.places.specs.declared.value.Change.{Change}
-use Rattle.occupancy.specs.declared.stamps.Stamps.{Stamps}
+use Rattle.occupancy.specs.Common.{Row, Phase, Queued, Issued, Ended, updated, Place, Request, Change, Stamps}
 
 -- The first moment if there is one, else the given one.
 abbrev pub first_moment : Option ℕ → ℕ → Option ℕ

@@ -1,8 +1,6 @@
 //! How full the rings and the backlog are at a moment.
-ghost use Rattle.std.specs.Prelude.{◌≡◌, ◌<◌, ◌≤◌, ◌^◌, length};
-ghost use Rattle.ring_words.specs.Rings.{waiting as waiting_between};
-ghost use Rattle.machine.specs.Whole.{view, WellFormed};
-ghost use Rattle.occupancy.specs.Fillings.{filling_of, number_in};
+ghost use Rattle.std.specs.Prelude.{◌≡◌, ◌≤◌, length};
+ghost use Rattle.occupancy.specs.{view, WellFormed, filling_of, number_in};
 
 use machine::State;
 use places::{Place, Value};
@@ -31,32 +29,6 @@ fn number_at(state: &State, place: Place) -> u64
     }
 }
 
-// Returns how many items are between the head and the tail of a ring, which wrap around at 32 bits
-// (io_uring(7)).
-fn waiting(head: u64, tail: u64) -> u32
-    requires head { head < 2 ^ 32 }
-    requires tail { tail < 2 ^ 32 }
-    ensures { result ≡ waiting_between head tail }
-{
-    (tail as u32).wrapping_sub(head as u32)
-}
-
-fn entries_waiting(state: &State) -> u32
-    ensures { result ≡ waiting_between state.now.submissions.head state.now.submissions.tail }
-{
-    let head = number_at(state, Place::SubmissionHead);
-    let tail = number_at(state, Place::SubmissionTail);
-    waiting(head, tail)
-}
-
-fn completions_waiting(state: &State) -> u32
-    ensures { result ≡ waiting_between state.now.completions.head state.now.completions.tail }
-{
-    let head = number_at(state, Place::CompletionHead);
-    let tail = number_at(state, Place::CompletionTail);
-    waiting(head, tail)
-}
-
 /// Returns the occupancy of a state, given how many completions have overflowed so far.
 pub(crate) fn filling_of(state: &State, overflowed: u32) -> Filling
     requires { overflowed ≡ length state.now.backlog.items }
@@ -65,10 +37,10 @@ pub(crate) fn filling_of(state: &State, overflowed: u32) -> Filling
 {
     let front = number_at(state, Place::BacklogFront);
     Filling {
-        submissions: entries_waiting(state),
-        completions: completions_waiting(state),
+        submissions: state.submissions().waiting(),
+        completions: state.completions().waiting(),
         kept: (u64::from(overflowed) - front) as u32,
-        clock: number_at(state, Place::Clock),
+        clock: state.clock(),
     }
 }
 

@@ -1,20 +1,18 @@
 //! An observer that records the queue occupancy and the request lifetimes of a run.
-ghost use Rattle.std.specs.Prelude.{◌≡◌, ◌≤◌, ℕ, None, List, length, slice_get, IfOk};
-ghost use Rattle.scenario.specs.declared.event.Event.{Event};
-ghost use Rattle.scenario.specs.declared.setup.Setup.{Setup};
-ghost use Rattle.scenario.specs.Setups.{setup_refusal};
-ghost use Rattle.machine.specs.Whole.{WellFormed};
-ghost use Rattle.machine.specs.Runs.{start, moment};
-ghost use Rattle.occupancy.specs.Occupancies.{HasFollowed, IsFollowed};
+ghost use Rattle.std.specs.Prelude.{◌≡◌, ◌≤◌, ℕ, None, List, length, IfOk};
+ghost use Rattle.occupancy.specs.{Event, Setup, setup_refusal, start, moment, HasFollowed, IsFollowed};
 
 use crate::occupancy::Occupancy;
 use crate::thread_stages::ThreadStages;
 use entries::Row;
 use machine::{Setup, State};
-use places::{Place, Record, Value};
+use places::Record;
 use runs::{Observed, Observer};
 use std::alloc::{AllocError, Global};
 use std::marker::{Brand, PhantomData};
+
+/// The most requests of a run.
+const MOST_ROWS: u32 = 65536;
 
 /// The moment at which a follower reads the threads and the poller, for proofs.
 pub trait StagesMoment {
@@ -48,28 +46,17 @@ pub struct Follower<K> {
     proof: PhantomData<K>,
 }
 
-// Returns request `number`, or None past the end of the table.
-fn row_at(state: &State, number: u32) -> Option<Row>
-    ensures value { result ≡ slice_get state.now.table number }
-    ensures formed { WellFormed state.now }
-{
-    match state.value(Place::Request(number)) {
-        Some(Value::Requested(row)) => Some(row),
-        _ => None,
-    }
-}
-
 // Returns all requests of a state.
 fn rows_of(alloc: Global, state: &State) -> Result<Vec<Row>, AllocError>
     ensures { IfOk result (λ rows. rows.items ≡ state.now.table) }
 {
     let mut rows = Vec::new(alloc);
-    let mut number = 0;
-    let mut next = row_at(state, 0);
-    'table: while let Some(row) = next {
-        rows.push(row)?;
-        number += 1;
-        next = row_at(state, number);
+    let _first = state.row(0);
+    for number in 0..MOST_ROWS {
+        match state.row(number) {
+            Some(row) => rows.push(row)?,
+            None => return Ok(rows),
+        }
     }
     Ok(rows)
 }

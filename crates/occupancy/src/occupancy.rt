@@ -1,7 +1,6 @@
 //! Queue occupancy at each moment of a run, and the lifetime of each request.
 ghost use Rattle.std.specs.Prelude.{◌≡◌, ◌≤◌, ◌++◌, ◌∷◌, ◌-◌, ◌<◌, [], length, IfOk, OnOk};
-ghost use Rattle.occupancy.specs.Fillings.{filling_of as filling_at};
-ghost use Rattle.occupancy.specs.Stamping.{stamps_after};
+ghost use Rattle.occupancy.specs.{filling_of as filling_at, stamps_after};
 
 use crate::filling::{Filling, count_overflowed, filling_of};
 use crate::stamps::{Stamps, add_rows, stamp_changes};

@@ -1,7 +1,6 @@
 //! The lifetime of each request: when it was submitted, issued and completed.
 ghost use Rattle.std.specs.Prelude.{◌≡◌, ◌≤◌, ◌-◌, ◌++◌, length, replicate, OnOk};
-ghost use Rattle.machine.specs.Whole.{WellFormed};
-ghost use Rattle.occupancy.specs.Stamping.{first_moment, new_stamps, stamped, stamp_row, stamp_changes};
+ghost use Rattle.occupancy.specs.{WellFormed, first_moment, new_stamps, stamped, stamp_row, stamp_changes};
 
 use entries::Phase;
 use machine::State;

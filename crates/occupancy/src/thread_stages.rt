@@ -1,7 +1,6 @@
 //! Whether each thread waits, and whether the poller is awake.
 ghost use Rattle.std.specs.Prelude.{◌≡◌, ◌≤◌, map, option_map, length, slice_get, IfOk};
-ghost use Rattle.sqpoll.specs.Pollers.{is_awake};
-ghost use Rattle.occupancy.specs.Occupancies.{AreThreadStages};
+ghost use Rattle.occupancy.specs.{is_awake, AreThreadStages};
 
 use machine::State;
 use places::{Place, Stage, Value};

@@ -12,7 +12,7 @@ use Rattle.places.specs.PlaceNumbers.{place_of}
 use Rattle.places.specs.View.{named}
 use Rattle.places.specs.Notes.{left, after_change}
 use Rattle.compact_size.specs.CompactSizes.{number_of, after, after_many, word_of}
-use Rattle.places.specs.Packed.{value_of_shape, change_of, after_change as after_packed}
+use Rattle.places.specs.Packed.{value_of_shape, after_value, change_of, after_change as after_packed}
 use Rattle.places.specs.Heads.{IsHead, IsFirst, number_was}
 use Rattle.places.proofs.Left.{after_some}
 
@@ -30,7 +30,7 @@ none_or_some false y f = f
 some_by_shape : (s : ℕ) (bytes : List ℕ) → is_some (value_of_shape s bytes) ≡ not (s == 0)
 unfolding value_of_shape
 some_by_shape s bytes =
-    none_or_some (s == 0) _ (either_some (s == 1) _ _ refl (either_some (s == 2) _ _ refl (either_some (s == 3) _ _ refl (either_some (s == 4) _ _ refl (either_some (s == 5) _ _ refl (either_some (s == 6) _ _ refl (either_some (s == 7) _ _ refl refl)))))))
+    none_or_some (s == 0) _ (either_some (s == 1) _ _ refl refl)
 
 pub head_read : (bytes : List ℕ) (n i : ℕ) → n ≡ number_of bytes → i ≡ word_of (after_many 1 bytes) → IsHead (record { kind = n % 30; index = i; was_there = not (n / 30 == 0) }) (change_of bytes)
 unfolding change_of
@@ -42,7 +42,7 @@ head_read bytes n i e f = record {
 
 -- The change whose shape is 1: its old value is a number.
 number_first : (bytes : List ℕ) → number_of bytes / 30 ≡ 1 → (change_of bytes ≡ number_was (place_of (number_of bytes % 30) (word_of (after_many 1 bytes)) 0) (number_of (after_many 2 bytes))) × (after_packed bytes ≡ after_many 3 bytes)
-unfolding change_of after_packed value_of_shape
+unfolding change_of after_packed value_of_shape after_value
 number_first bytes e = (rw e refl, rw e refl)
 
 -- The same, by the head, index and number as they are read one after the other.

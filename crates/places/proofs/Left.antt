@@ -1,6 +1,7 @@
 -- Which notes shorten a list when they are undone.
-use Rattle.std.proofs.Common.{◌≡◌, ℕ, ◌+◌, refl, ◌∙◌, ap, List, [], ◌∷◌, ◌++◌, take, drop}
-use Rattle.std.specs.Prelude.{Option, Some, None, map}
+use Rattle.std.proofs.Common.{◌≡◌, ℕ, ◌+◌, false, not, refl, ◌∙◌, ap, List, [], ◌∷◌, ◌++◌, take, drop}
+use Rattle.std.specs.Prelude.{Option, Some, None, is_some, ◌||◌, map}
+use Rattle.std.specs.List.{list_any}
 use Rattle.places.specs.declared.place.Place.{Place}
 use Rattle.places.specs.declared.place.Place.TheVariants.{Completion}
 use Rattle.places.specs.declared.value.Value.{Value}
@@ -12,7 +13,7 @@ use Rattle.places.specs.declared.notes.rows.RowNote.{RowNote}
 use Rattle.places.specs.declared.notes.runs.Region.{Region}
 use Rattle.places.specs.declared.notes.runs.Run.{Run}
 use Rattle.places.specs.declared.listed.Listed.{Listed}
-use Rattle.places.specs.Notes.{number_in, cut_off, after_change, left}
+use Rattle.places.specs.Notes.{number_in, cut_off, after_change, left, ShortensNothing}
 use Rattle.places.specs.Slots.{number_place, number_change, completion_change, row_change}
 use Rattle.places.specs.Runs.{place_in, old_bytes, run_changes}
 use Rattle.places.specs.RestList.{RestList}
@@ -48,6 +49,22 @@ left-bytes l [] os n = refl
 left-bytes l (r ∷ rs) os n =
     left-append l (old_bytes r.region r.start (take r.len os)) (run_changes rs (drop r.len os)) n
     ∙ ap (left l (run_changes rs (drop r.len os))) (left-old l r.region r.start (take r.len os) n) ∙ left-bytes l rs (drop r.len os) n
+
+-- Notes of rows of which none was absent remove no element.
+left-rows : (rs : List RowNote) → list_any (λ r. not (is_some (row_change r).old)) rs ≡ false → ShortensNothing (map row_change rs)
+left-rows [] e l n = refl
+left-rows (x ∷ xs) e l n = by (row_change x).old e (λ h. left-rows xs h l n)
+  where
+    by : (o : Option Value) → (not (is_some o) || list_any (λ r. not (is_some (row_change r).old)) xs) ≡ false → (list_any (λ r. not (is_some (row_change r).old)) xs ≡ false → left l (map row_change xs) n ≡ n) → left l (map row_change xs) (after_change l (row_change x).place o n) ≡ n
+    by None g f = absurd cc
+    by (Some v) g f = ap (left l (map row_change xs)) (after_some l (row_change x).place v n) ∙ f g
+
+pub kinds_shorten_nothing : (ns : List NumberNote) (cs : List CompletionNote) (rs : List RowNote) → list_any (λ r. not (is_some (row_change r).old)) rs ≡ false → ShortensNothing (map number_change ns ++ (map completion_change cs ++ map row_change rs))
+kinds_shorten_nothing ns cs rs e l n =
+    left-append l (map number_change ns) (map completion_change cs ++ map row_change rs) n
+    ∙ ap (left l (map completion_change cs ++ map row_change rs)) (left-numbers l ns n)
+    ∙ left-append l (map completion_change cs) (map row_change rs) n
+    ∙ ap (left l (map row_change rs)) (left-completions l cs n) ∙ left-rows rs e l n
 
 -- Only notes of requests and other places, and single notes, can remove elements.
 pub left_everywhere : (l : Listed) (ns : List NumberNote) (cs : List CompletionNote) (rs : List RowNote) (x : RestList) (n : ℕ) → left l (all_changes ns cs rs x) n ≡ left l x.odd (left l (map row_change rs) n)

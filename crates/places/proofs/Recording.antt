@@ -1,5 +1,5 @@
 -- A record has the changes of the notes that it was made of.
-use Rattle.std.proofs.Common.{◌≡◌, ℕ, ◌+◌, ◌<◌, ◌≤◌, true, false, refl, sym, ◌∙◌, ap, subst, List, [], ◌∷◌, ◌++◌, length, append_assoc, length-append, arith, inl, inr}
+use Rattle.std.proofs.Common.{◌≡◌, ℕ, ◌+◌, ◌/◌, ◌<◌, ◌≤◌, true, false, refl, sym, ◌∙◌, ap, subst, List, [], ◌∷◌, ◌++◌, length, append_assoc, length-append, arith, inl, inr}
 use Rattle.std.proofs.lemmas.List.{length-map}
 use Rattle.std.specs.Prelude.{map}
 use Rattle.places.specs.declared.value.Change.{Change}
@@ -44,8 +44,8 @@ module _ (ns : List NumberNote) (cs : List CompletionNote) (rs : List RowNote) (
   pub wide_changes : ps ≡ [] → w.numbers ≡ ns → w.completions ≡ cs → w.rows ≡ rs → record_changes ps w x ≡ all_changes ns cs rs x
   wide_changes e f g h = rw (e, f, g, h) refl
 
--- The number of notes, followed by the notes of each kind, is read as their changes.
-pub notes_packed : (ns : List NumberNote) (cs : List CompletionNote) (rs : List RowNote) (n : ℕ) (a b c d e : List ℕ) → a ≡ [] → n ≡ length ns + (length cs + length rs) → Puts number_of after a (n ∷ []) b → Puts change_of after_change b (map number_change ns) c → Puts change_of after_change c (map completion_change cs) d → Puts change_of after_change d (map row_change rs) e → packed e ≡ map number_change ns ++ (map completion_change cs ++ map row_change rs)
+-- Twice the number of notes, or 1 more, followed by the notes of each kind, is read as their changes.
+pub notes_packed : (ns : List NumberNote) (cs : List CompletionNote) (rs : List RowNote) (n : ℕ) (a b c d e : List ℕ) → a ≡ [] → n / 2 ≡ length ns + (length cs + length rs) → Puts number_of after a (n ∷ []) b → Puts change_of after_change b (map number_change ns) c → Puts change_of after_change c (map completion_change cs) d → Puts change_of after_change d (map row_change rs) e → (packed e ≡ map number_change ns ++ (map completion_change cs ++ map row_change rs)) × (number_of e ≡ n)
 notes_packed ns cs rs n a b c d e z l f g h k =
     let A = map number_change ns in
     let B = map completion_change cs in

@@ -17,6 +17,7 @@ pub mod WideOf
 pub mod MoreList
 pub mod MoreOf
 pub mod All
+pub mod HeldBytes
 pub mod Packed
 pub mod Heads
 pub mod SlotLaws

@@ -73,3 +73,7 @@ after_change l p x n = cut_off (number_in l p) x n
 abbrev pub left : Listed → List Change → ℕ → ℕ
 left l [] n = n
 left l (c ∷ cs) n = left l cs (after_change l c.place c.old n)
+
+-- Undoing the changes removes no element.
+abbrev pub ShortensNothing : List Change → Type 0
+ShortensNothing cs = (l : Listed) (n : ℕ) → left l cs n ≡ n

@@ -2,4 +2,5 @@
 
 pub mod changes;
 pub mod packed;
+pub mod short_bytes;
 pub mod values;

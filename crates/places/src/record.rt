@@ -187,8 +187,7 @@ impl Record {
         ensures rows { IsLeft Requests self.now rows result.0 }
         ensures backlog { IsLeft Overflowed self.now backlog result.1 }
     {
-        let mut packed = self.packed.changes();
-        let (rows_left, backlog_left) = packed.lengths_left(rows, backlog);
+        let (rows_left, backlog_left) = self.packed.lengths_left(rows, backlog);
         (
             left_unpacked(Listed::Requests, &self.more, rows_left),
             left_unpacked(Listed::Overflowed, &self.more, backlog_left),

@@ -389,7 +389,7 @@ impl Recorder {
             Err(_) => {
                 let spare = mem::replace(&mut self.spare, Wide::new());
                 let wide = spare.with(numbers, completions, rows);
-                Record::from_parts(Packed::new(self.alloc), wide, rest)
+                Record::from_parts(Packed::new(), wide, rest)
             }
         }
     }

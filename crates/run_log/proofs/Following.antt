@@ -1,26 +1,5 @@
 -- A log extended by one event, and a log that stops.
-use Rattle.std.proofs.Common.{◌≡◌, ◌⊎◌, inl, inr, ℕ, ◌+◌, ◌<◌, suc, List, [], ◌++◌, length, slice_get, Bool, true, false, Option, Some, refl, sym, ap, ◌∙◌, subst, arith, append_assoc}
-use Rattle.std.specs.Prelude.{⊤, Result, Ok, Err, OnOk, IfOk, IfErr}
-use Rattle.std.proofs.KnownBytes.{Appends-nil, Appends-trans, Appends-kept}
-use Rattle.std.proofs.lemmas.Option.{slice_get_within}
-use Rattle.std.specs.Io.KnownBytes.{Appends, Keeps}
-use Rattle.places.specs.declared.value.Change.{Change}
-use Rattle.places.specs.View.{View, Exact, NamesOnce}
-use Rattle.scenario.specs.declared.event.Event.{Event}
-use Rattle.scenario.specs.declared.setup.Setup.{Setup}
-use Rattle.machine.specs.declared.whole.Machine.{Machine}
-use Rattle.machine.specs.Whole.{view}
-use Rattle.machine.specs.Runs.{moment}
-use Rattle.whole_files.specs.Writes.{WritesFront}
-use Rattle.runs.specs.Moments.{IsAfter}
-use Rattle.runs.specs.declared.fault.ReportFault.{ReportFault}
-use Rattle.runs.specs.declared.fault.ReportFault.TheVariants.{Write, Memory}
-use Rattle.run_log.specs.declared.range.EventRange.{EventRange}
-use Rattle.run_log.specs.declared.changed.Changed.{Changed}
-use Rattle.run_log.specs.Lines.{event_lines}
-use Rattle.run_log.specs.Listings.{IsListing}
-use Rattle.run_log.specs.Ranges.{has}
-use Rattle.run_log.specs.Logs.{Shows, Reports, ReportsIf, Logs, Written, Stopped}
+use Rattle.run_log.proofs.Common.{◌≡◌, ◌⊎◌, ℕ, ◌+◌, ◌<◌, suc, List, [], ◌++◌, length, true, false, Option, refl, ⊤, Result, Ok, Err, OnOk, IfOk, IfErr, Appends, Keeps, Change, View, Exact, NamesOnce, Event, Setup, Machine, view, moment, WritesFront, IsAfter, ReportFault, Write, Memory, EventRange, Changed, inl, inr, sym, ap, ◌∙◌, subst, arith, append_assoc, Appends-nil, Appends-trans, Appends-kept, slice_get_within, event_lines, IsListing, has, Shows, Reports, ReportsIf, Written, Stopped, Logs}
 
 -- ---- the lines of an event
 

@@ -1,10 +1,5 @@
 -- The rows contain all changes, and each row is a single change or consecutive bytes.
-use Rattle.std.proofs.Common.{◌≡◌, List, [], ◌∷◌, ◌++◌, cond, Bool, true, false, refl, ap, ◌∙◌}
-use Rattle.std.proofs.lemmas.List.Elements.{All-nil, All-cons, All-head, All-tail}
-use Rattle.std.specs.List.{flat_map, All}
-use Rattle.run_log.specs.declared.changed.Changed.{Changed}
-use Rattle.run_log.specs.Lines.{is_next, onto, rows}
-use Rattle.run_log.specs.RowShapes.{IsRow}
+use Rattle.run_log.proofs.Common.{◌≡◌, List, [], ◌∷◌, ◌++◌, cond, Bool, true, false, refl, flat_map, All, Changed, ap, ◌∙◌, All-nil, All-cons, All-head, All-tail, is_next, onto, rows, IsRow}
 
 onto_holds : (d : Changed) (rs : List (List Changed)) → flat_map (λ row. row) (onto d rs) ≡ d ∷ flat_map (λ row. row) rs
 onto_holds d [] = refl

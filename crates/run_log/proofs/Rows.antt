@@ -1,11 +1,5 @@
 -- Splitting changes into rows, from the front.
-use Rattle.std.proofs.Common.{◌≡◌, ℕ, ◌+◌, ◌<◌, ◌≤◌, arith, zero, suc, List, [], ◌∷◌, length, take, drop, get_or, cond, Bool, true, false, refl, sym, ap, ◌∙◌, ◌++◌, append_assoc}
-use Rattle.std.proofs.Math.Seq.{drop-cons}
-use Rattle.std.proofs.lemmas.List.{drop_all}
-use Rattle.std.specs.List.{flat_map}
-use Rattle.places.specs.declared.place.Place.{Place}
-use Rattle.run_log.specs.declared.changed.Changed.{Changed}
-use Rattle.run_log.specs.Lines.{is_next, onto, rows}
+use Rattle.run_log.proofs.Common.{◌≡◌, ℕ, ◌+◌, ◌<◌, ◌≤◌, zero, suc, List, [], ◌∷◌, length, take, drop, get_or, cond, Bool, true, false, refl, ◌++◌, Place, Changed, arith, sym, ap, ◌∙◌, append_assoc, drop-cons, drop_all, is_next, onto, rows}
 
 -- The number of changes at the front that are consecutive bytes after a place.
 abbrev pub length_from : Place → List Changed → ℕ

@@ -1,18 +1,6 @@
 -- The lines of an event.
-use Rattle.std.specs.Prelude.{ℕ, ◌+◌, ◌-◌, List, [], ◌∷◌, ◌++◌, codes, decimal, length, slice_get, Bool, false, if◌then◌else◌, Option, Some, None, option_map}
-use Rattle.std.specs.List.{flat_map}
-use Rattle.std.specs.Option.{option_and_then, option_map_or}
-use Rattle.places.specs.declared.place.Place.{Place}
-use Rattle.places.specs.declared.place.Place.TheVariants.{MemoryByte, FileByte, DurableByte, PipeByte}
-use Rattle.places.specs.declared.value.Value.{Value}
-use Rattle.places.specs.Places.{same_place}
-use Rattle.places.specs.Text.{value_text}
-use Rattle.scenario.specs.Names.{fitting}
-use Rattle.scenario.specs.PlaceTexts.{place_text, number_of, number_text}
-use Rattle.scenario.specs.declared.event.Event.{Event}
-use Rattle.scenario.specs.declared.setup.Setup.{Setup}
-use Rattle.run_log.specs.declared.changed.Changed.{Changed}
-use Rattle.script.specs.EventTexts.{event_text}
+use Rattle.std.specs.Prelude.{ℕ, ◌+◌, ◌-◌, List, [], ◌∷◌, ◌++◌, codes, decimal, length, slice_get, Bool, false, if◌then◌else◌, Option, Some, None, option_map, flat_map, option_and_then}
+use Rattle.run_log.specs.Common.{option_map_or, Place, MemoryByte, FileByte, DurableByte, PipeByte, Value, same_place, value_text, fitting, place_text, number_of, number_text, Event, Setup, Changed, event_text}
 
 -- ---- rows: single changes and consecutive bytes
 

@@ -1,11 +1,6 @@
 -- The changes of a step, in the order of places.
-use Rattle.std.specs.Prelude.{ℕ, ◌+◌, ◌*◌, ◌^◌, List, map}
-use Rattle.std.specs.List.Sorted.{IsPermutation, IsNonDecreasingBy}
-use Rattle.places.specs.declared.place.Place.{Place}
-use Rattle.places.specs.declared.value.Change.{Change}
-use Rattle.places.specs.Places.{kind_of, index_of, second_of}
-use Rattle.places.specs.View.{View}
-use Rattle.run_log.specs.declared.changed.Changed.{Changed}
+use Rattle.std.specs.Prelude.{ℕ, ◌+◌, ◌*◌, ◌^◌, List, map, IsPermutation}
+use Rattle.run_log.specs.Common.{IsNonDecreasingBy, Place, Change, kind_of, index_of, second_of, View, Changed}
 
 -- The order of places: by kind, then by object, thread or index, then by the index within an
 -- object. The latter two are below 2 ^ 32.

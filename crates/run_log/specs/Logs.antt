@@ -1,26 +1,7 @@
 -- The output of a log.
 use Rattle.std.specs.Prelude.{◌≡◌, ◌≤◌, ◌⊎◌, ℕ, zero, suc, List, [], ◌++◌, length, slice_get, take, Bool, true, false, Option, Some}
-use Rattle.std.specs.Io.KnownBytes.{Appends, Keeps}
-use Rattle.places.specs.declared.value.Change.{Change}
-use Rattle.places.specs.View.{View, Exact, NamesOnce}
-use Rattle.scenario.specs.declared.event.Event.{Event}
-use Rattle.scenario.specs.declared.setup.Setup.{Setup}
-use Rattle.machine.specs.declared.whole.Machine.{Machine}
-use Rattle.machine.specs.Whole.{view}
-use Rattle.machine.specs.Steps.{after}
-use Rattle.machine.specs.Runs.{start, moment, Accepts, IsRefused}
-use Rattle.script.specs.Scripts.{Scenario}
-use Rattle.whole_files.specs.Writes.{WritesFront}
-use Rattle.run_log.specs.declared.changed.Changed.{Changed}
-use Rattle.runs.specs.declared.reading.RunFault.{RunFault}
-use Rattle.runs.specs.Faults.{of_reading}
-use Rattle.runs.specs.Reading.{Reads, IsUnread}
-use Rattle.runs.specs.declared.fault.ReportFault.{ReportFault}
-use Rattle.runs.specs.declared.fault.ReportFault.TheVariants.{Script, Trace, Schedule, Write, Memory}
-use Rattle.run_log.specs.declared.range.EventRange.{EventRange}
-use Rattle.run_log.specs.Ranges.{has}
-use Rattle.run_log.specs.Listings.{IsListing}
-use Rattle.run_log.specs.Lines.{event_lines}
+use Rattle.run_log.specs.Common.{Appends, Keeps, Change, View, Exact, NamesOnce, Event, Setup, Machine, view, after, start, moment, Accepts, IsRefused, Scenario, Changed, RunFault, of_reading, Reads, IsUnread, ReportFault, Script, Trace, Schedule, Write, Memory, EventRange}
+use Rattle.run_log.specs.{Lines.event_lines, Listings.IsListing, Ranges.has}
 
 -- ---- an event
 

@@ -1,6 +1,6 @@
 -- The range of events to log.
 use Rattle.std.specs.Prelude.{ℕ, ◌&&◌, nat_le, nat_lt, Bool, true, Option, None, Some}
-use Rattle.run_log.specs.declared.range.EventRange.{EventRange}
+use Rattle.run_log.specs.Common.{EventRange}
 
 -- Whether an index is below an optional end.
 abbrev pub is_below : ℕ → Option ℕ → Bool

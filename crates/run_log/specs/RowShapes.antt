@@ -1,7 +1,6 @@
 -- The shape of a row.
 use Rattle.std.specs.Prelude.{◌≡◌, List, [], ◌∷◌, true}
-use Rattle.places.specs.declared.place.Place.{Place}
-use Rattle.run_log.specs.declared.changed.Changed.{Changed}
+use Rattle.run_log.specs.Common.{Place, Changed}
 use Rattle.run_log.specs.Lines.{is_next}
 
 -- Consecutive bytes, the first of which comes after place `p`.

@@ -1,8 +1,6 @@
 //! The changes of a step, in the order of places.
 ghost use Rattle.std.specs.Prelude.{◌≡◌, map, IfOk, OnOk};
-ghost use Rattle.places.specs.View.{NamesOnce};
-ghost use Rattle.machine.specs.Whole.{view};
-ghost use Rattle.run_log.specs.Listings.{rank, changed_to, IsListing};
+ghost use Rattle.run_log.specs.{NamesOnce, view, rank, changed_to, IsListing};
 
 use machine::State;
 use places::{Change, Place, Record, Value};

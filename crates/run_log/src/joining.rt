@@ -1,6 +1,6 @@
 //! Joins changes of consecutive bytes into one line.
 ghost use Rattle.std.specs.Prelude.{◌≡◌, ◌<◌, ◌≤◌, ◌∷◌, take, drop, length};
-ghost use Rattle.run_log.specs.Lines.{is_next, next_byte, rows};
+ghost use Rattle.run_log.specs.{is_next, next_byte, rows};
 
 use crate::changed::Changed;
 use places::Place;
@@ -24,10 +24,7 @@ fn next_byte(place: Place) -> Option<Place>
 fn is_next(first: Place, second: Place) -> bool
     ensures { result ≡ is_next first second }
 {
-    match next_byte(first) {
-        Some(next) => next.equals(&second),
-        None => false,
-    }
+    matches!(next_byte(first), Some(next) if next.equals(&second))
 }
 
 // Returns how many further changes belong to the first one's line: the consecutive bytes after it.

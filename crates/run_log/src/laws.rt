@@ -1,9 +1,6 @@
 //! Laws about how the changes of an event are divided into lines.
-ghost use Rattle.std.specs.Prelude.{◌≡◌, List};
-ghost use Rattle.std.specs.List.{flat_map, All};
-ghost use Rattle.run_log.specs.Lines.{rows};
-ghost use Rattle.run_log.specs.RowShapes.{IsRow};
-ghost use Rattle.run_log.specs.declared.changed.Changed.{Changed};
+ghost use Rattle.std.specs.Prelude.{◌≡◌, List, flat_map, All};
+ghost use Rattle.run_log.specs.{Changed, rows, IsRow};
 
 /// The lines of an event contain all listed changes, in their order, each once.
 pub fn rows_hold_all()

@@ -1,8 +1,7 @@
 //! Writes the lines of an event.
 ghost use Rattle.std.specs.Prelude.{◌≡◌, ◌<◌, ◌++◌, length, codes, map, IfOk, OnOk};
 ghost use Rattle.std.specs.List.{flat_map};
-ghost use Rattle.run_log.specs.Lines.{value_shown, olds_text, news_text, end_text, values_text, row_place, change_text, line_text, rows, event_lines};
-ghost use Rattle.scenario.specs.PlaceTexts.{number_text};
+ghost use Rattle.run_log.specs.{value_shown, olds_text, news_text, end_text, values_text, row_place, change_text, line_text, rows, event_lines, number_text};
 
 use crate::changed::Changed;
 use crate::joining::first_row;

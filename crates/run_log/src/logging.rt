@@ -1,12 +1,6 @@
 //! Logs a run, event by event.
 ghost use Rattle.std.specs.Prelude.{◌≡◌, ◌≤◌, ◌⊎◌, ℕ, List, Option, None, length, IfOk, OnOk, IfErr};
-ghost use Rattle.std.specs.Io.KnownBytes.{Appends, Keeps};
-ghost use Rattle.scenario.specs.Setups.{setup_refusal};
-ghost use Rattle.machine.specs.Whole.{view};
-ghost use Rattle.machine.specs.Runs.{start};
-ghost use Rattle.whole_files.specs.Writes.{WritesFront};
-ghost use Rattle.run_log.specs.declared.range.EventRange.{EventRange};
-ghost use Rattle.run_log.specs.Logs.{Shows, Written, Stopped, Logged, Unlogged};
+ghost use Rattle.run_log.specs.{Appends, Keeps, setup_refusal, view, start, WritesFront, EventRange, Shows, Written, Stopped, Logged, Unlogged};
 
 use crate::changed::changes_of;
 use crate::line::event_lines;

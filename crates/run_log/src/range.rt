@@ -1,6 +1,6 @@
 //! The range of events to log.
 ghost use Rattle.std.specs.Prelude.{◌≡◌};
-ghost use Rattle.run_log.specs.Ranges.{has, is_below};
+ghost use Rattle.run_log.specs.{has, is_below};
 
 /// The events with indexes from..to, counted from 0. Without `to`, there is no end.
 #[derive(Clone, Copy)]

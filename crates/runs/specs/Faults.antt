@@ -1,10 +1,7 @@
 -- The fault of a report whose run can't be read, or ends early.
-use Rattle.runs.specs.declared.driving.Ended.{Ended}
-use Rattle.runs.specs.declared.driving.Ended.TheVariants.{Refused, Stopped}
+use Rattle.runs.specs.Common.{Ended, Refused, Stopped, ReportFault, Schedule, RunFault}
+use Rattle.runs.specs.declared.fault.ReportFault.TheVariants.{Memory, Script, Trace}
 use Rattle.runs.specs.declared.driving.Ended.TheVariants as ended
-use Rattle.runs.specs.declared.fault.ReportFault.{ReportFault}
-use Rattle.runs.specs.declared.fault.ReportFault.TheVariants.{Script, Trace, Schedule, Memory}
-use Rattle.runs.specs.declared.reading.RunFault.{RunFault}
 use Rattle.runs.specs.declared.reading.RunFault.TheVariants as unread
 
 -- The fault of a report whose run can't be read.

@@ -1,3 +1,4 @@
+pub mod Common
 pub mod Moments
 pub mod Reading
 pub mod Faults

@@ -1,16 +1,7 @@
 -- What an observer is given of a run, at each event and when the run ends early.
-use Rattle.std.specs.Prelude.{◌≡◌, ◌≤◌, ◌<◌, ◌+◌, ℕ, List, slice_get, length, take, Some}
-use Rattle.places.specs.declared.value.Change.{Change}
-use Rattle.places.specs.View.{Exact}
-use Rattle.scenario.specs.declared.event.Event.{Event}
-use Rattle.scenario.specs.declared.setup.Setup.{Setup}
-use Rattle.machine.specs.declared.whole.Machine.{Machine}
-use Rattle.machine.specs.Whole.{view}
-use Rattle.machine.specs.Runs.{start, moment, Accepts, IsRefused, Link}
-use Rattle.runs.specs.declared.driving.Ended.{Ended}
-use Rattle.runs.specs.declared.driving.Ended.TheVariants.{Refused, Memory, Stopped}
-use Rattle.runs.specs.declared.pair.Either.{Either}
-use Rattle.runs.specs.declared.pair.Either.TheVariants.{First, Second}
+use Rattle.std.specs.Prelude.{◌≡◌, ◌<◌, ◌+◌, ℕ, List, slice_get, length, take, Some}
+use Rattle.runs.specs.Common.{Change, Exact, Event, Setup, Machine, view, start, moment, Accepts, IsRefused, Link, Ended, Refused, Stopped, Either, First, Second}
+use Rattle.runs.specs.declared.driving.Ended.TheVariants.{Memory}
 
 -- The first i events of a run are accepted, and lead from its start to the machine m.
 pub record IsAt (s : Setup) (es : List Event) (i : ℕ) (m : Machine) : Type 0 where

@@ -1,12 +1,6 @@
 -- The run that bytes describe, or why they describe none.
 use Rattle.std.specs.Prelude.{◌≡◌, ◌==◌, ℕ, ◌≤◌, List, [], ◌∷◌, length, Bool, true, false, Ok, Err, None}
-use Rattle.scenario.specs.Setups.{setup_refusal}
-use Rattle.script.specs.Scripts.{Scenario, Reads as ReadsScript}
-use Rattle.traces.specs.Reading.{IsFault2}
-use Rattle.traces.specs.Setups.{IsTrace2}
-use Rattle.runs.specs.declared.reading.RunFault.{RunFault}
-use Rattle.runs.specs.declared.reading.RunFault.TheVariants.{Script, Trace, Memory}
-use Rattle.runs.specs.declared.reading.Source.{Source}
+use Rattle.runs.specs.Common.{setup_refusal, Scenario, ReadsScript, IsFault2, IsTrace2, RunFault, Script, Trace, Memory, Source}
 use Rattle.runs.specs.declared.reading.Source.TheVariants as from
 
 -- The run that was read from a script or a trace.

@@ -1,7 +1,6 @@
 //! Steps each event of a run once, and calls an observer.
 ghost use Rattle.std.specs.Prelude.{◌≡◌, ◌≤◌, ◌<◌, ◌+◌, length, OnOk, IfErr};
-ghost use Rattle.machine.specs.Runs.{start, Accepts};
-ghost use Rattle.runs.specs.Moments.{IsAt, Ends};
+ghost use Rattle.runs.specs.{Common.Accepts, Common.start, Moments.Ends, Moments.IsAt};
 
 use crate::observer::{Observed, Observer};
 use machine::{Event, Refusal, Setup, State};

@@ -1,8 +1,6 @@
 //! Observers, which are called before and after each event of a run.
 ghost use Rattle.std.specs.Prelude.{ℕ, List, IfOk, OnOk, IfErr, ◌+◌};
-ghost use Rattle.scenario.specs.declared.event.Event.{Event};
-ghost use Rattle.scenario.specs.declared.setup.Setup.{Setup};
-ghost use Rattle.runs.specs.Moments.{IsBefore, IsAfter};
+ghost use Rattle.runs.specs.{Common.Event, Common.Setup, Moments.IsAfter, Moments.IsBefore};
 
 use machine::{Event, Setup, State};
 use places::Record;

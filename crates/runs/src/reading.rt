@@ -1,7 +1,6 @@
 //! Reads a run from the bytes of a script or a trace.
 ghost use Rattle.std.specs.Prelude.{◌≡◌, ◌≤◌, None, true, false, length, IfOk, IfErr};
-ghost use Rattle.scenario.specs.Setups.{setup_refusal};
-ghost use Rattle.runs.specs.Reading.{Startable, Reads, ReadsAs, IsUnread, IsUnreadAs};
+ghost use Rattle.runs.specs.{Common.setup_refusal, Reading.IsUnread, Reading.IsUnreadAs, Reading.Reads, Reading.ReadsAs, Reading.Startable};
 
 use machine::{Event, Setup};
 use places::Items;

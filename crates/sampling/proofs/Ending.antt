@@ -54,19 +54,19 @@ or_cases : (a b : Bool) → (a || b) ≡ true → (a ≡ true) ⊎ (b ≡ true)
 or_cases true b h = inl refl
 or_cases false b h = inr h
 
-or_left : (a b : Bool) → a ≡ true → (a || b) ≡ true
+pub or_left : (a b : Bool) → a ≡ true → (a || b) ≡ true
 or_left true b h = refl
 or_left false b h = absurd (cc)
 
-or_right : (a b : Bool) → b ≡ true → (a || b) ≡ true
+pub or_right : (a b : Bool) → b ≡ true → (a || b) ≡ true
 or_right true b h = refl
 or_right false b h = h
 
-and_left : (a b : Bool) → (a && b) ≡ true → a ≡ true
+pub and_left : (a b : Bool) → (a && b) ≡ true → a ≡ true
 and_left true b h = refl
 and_left false b h = absurd (cc)
 
-and_right : (a b : Bool) → (a && b) ≡ true → b ≡ true
+pub and_right : (a b : Bool) → (a && b) ≡ true → b ≡ true
 and_right true b h = h
 and_right false b h = absurd (cc)
 
@@ -77,7 +77,7 @@ some_below f (suc n) h = elim (or_cases (any_below f n) (f n) h) [
   | inr here ↦ (n, omega arith, here)
 ]
 
-step_free : (s : Source) (m : Machine) (t : ℕ) → t < 16 → ((s.unlocked || not (is_locked m)) || option_map_or holds (slice_get m.threads t) false) ≡ true → offer_of s m t ≡ Some (Step t)
+pub step_free : (s : Source) (m : Machine) (t : ℕ) → t < 16 → ((s.unlocked || not (is_locked m)) || option_map_or holds (slice_get m.threads t) false) ≡ true → offer_of s m t ≡ Some (Step t)
 unfolding step_offer
 step_free s m t low h = offer_thread s m t low ∙ ap (λ (b : Bool). if b then Some (Step t) else None) h
 
@@ -87,12 +87,12 @@ is_there m t h = elim (cases_lt t (length m.threads)) [
   | inr high ↦ absurd (no_thread m t (slice_get_past m.threads t high) h)
 ]
 
-not_free : (u l : Bool) → (u || not l) ≡ false → l ≡ true
+pub not_free : (u l : Bool) → (u || not l) ≡ false → l ≡ true
 not_free true l h = absurd (cc)
 not_free false true h = refl
 not_free false false h = absurd (cc)
 
-holder : (m : Machine) → is_locked m ≡ true → (k : ℕ) × (k < length m.threads) × (locks m k ≡ true)
+pub holder : (m : Machine) → is_locked m ≡ true → (k : ℕ) × (k < length m.threads) × (locks m k ≡ true)
 unfolding is_locked
 holder m h = some_below (locks m) (length m.threads) h
 

@@ -5,3 +5,5 @@ pub mod RunLemmas
 pub mod Locking
 pub mod Deadlines
 pub mod Ending
+pub mod Forcing
+pub mod LockedRuns

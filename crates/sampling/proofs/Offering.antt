@@ -53,7 +53,7 @@ step_by : (t : ℕ) (f : Event) (b : Bool) → (if b then Some (Step t) else Non
 step_by t f true h = cc
 step_by t f false h = absurd (cc)
 
-step_is : (s : Source) (m : Machine) (t : ℕ) (f : Event) → step_offer s m t ≡ Some f → f ≡ Step t
+pub step_is : (s : Source) (m : Machine) (t : ℕ) (f : Event) → step_offer s m t ≡ Some f → f ≡ Step t
 unfolding step_offer
 step_is s m t f h = step_by t f ((s.unlocked || not (is_locked m)) || option_map_or holds (slice_get m.threads t) false) h
 
@@ -80,11 +80,11 @@ closed_by : (s : Source) (m : Machine) (r : ℕ) (o : Option Row) → ((row : Ro
 closed_by s m r None closed = refl
 closed_by s m r (Some row) closed = closed_phase s m r row row.phase (closed row refl)
 
-row_closed : (s : Source) (m : Machine) (r : ℕ) → ((row : Row) → slice_get m.table r ≡ Some row → is_open row ≡ false) → row_offer s m r ≡ None
+pub row_closed : (s : Source) (m : Machine) (r : ℕ) → ((row : Row) → slice_get m.table r ≡ Some row → is_open row ≡ false) → row_offer s m r ≡ None
 unfolding row_offer
 row_closed s m r closed = closed_by s m r (slice_get m.table r) closed
 
-rows_idle : (s : Source) (m : Machine) (from to : ℕ) → to ≤ 65536 → ((r : ℕ) → from ≤ r → r < to → row_offer s m r ≡ None) → Idle s m (17 + from) (17 + to)
+pub rows_idle : (s : Source) (m : Machine) (from to : ℕ) → to ≤ 65536 → ((r : ℕ) → from ≤ r → r < to → row_offer s m r ≡ None) → Idle s m (17 + from) (17 + to)
 rows_idle s m from to few none k low high f r =
     let same : k ≡ 17 + (k - 17) = omega (arith, low) in
     let small : k - 17 < 65536 = omega (arith, high, few, low) in

@@ -1,15 +1,16 @@
 -- The lock that an application holds around its submission ring.
-use Rattle.std.specs.Prelude.{ℕ, zero, suc, Bool, true, false, not, ◌&&◌, ◌||◌, List, [], ◌∷◌, slice_get, unwrap_or, is_none, length}
+use Rattle.std.specs.Prelude.{ℕ, zero, suc, Bool, true, false, not, ◌&&◌, ◌||◌, List, [], ◌∷◌, slice_get, unwrap_or, is_none, length, if◌then◌else◌}
 use Rattle.std.specs.List.{list_any}
 use Rattle.std.specs.Option.{option_map_or}
 use Rattle.places.specs.declared.value.Stage.{Stage}
 use Rattle.places.specs.declared.value.Stage.TheVariants.{Ready, Waiting}
 use Rattle.scenario.specs.declared.setup.Instruction.{Instruction}
 use Rattle.scenario.specs.declared.setup.Instruction.TheVariants.{Put, Push, Store, Enter, Reap, Close}
+use Rattle.scenario.specs.declared.event.Event.{Event}
 use Rattle.scenario.specs.declared.event.Event.TheVariants.{Step}
 use Rattle.machine.specs.declared.whole.Machine.{Machine}
 use Rattle.machine.specs.Threads.{ThreadState}
-use Rattle.machine.specs.Steps.{refusal}
+use Rattle.machine.specs.Steps.{refusal, after}
 
 -- ---- Locked sections of a program
 
@@ -63,3 +64,19 @@ any_below test (suc n) = any_below test n || test n
 -- Whether a thread that can do a step holds the lock, so that threads without it wait.
 unfoldable pub is_locked : Machine → Bool
 is_locked m = any_below (locks m) (length m.threads)
+
+-- ---- Runs that keep the lock
+
+-- Whether a thread needs no lock for a step, or holds it.
+abbrev pub may_step : Machine → ℕ → Bool
+may_step m t = if is_locked m then option_map_or holds (slice_get m.threads t) false else true
+
+-- Whether an event keeps the lock. Only steps of threads may not.
+abbrev pub keeps_lock : Machine → Event → Bool
+keeps_lock m (Step t) = may_step m t
+keeps_lock m e = true
+
+-- Whether each event from machine m on keeps the lock.
+abbrev pub keep_lock : Machine → List Event → Bool
+keep_lock m [] = true
+keep_lock m (e ∷ es) = if keeps_lock m e then keep_lock (after m e) es else false

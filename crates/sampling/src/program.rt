@@ -60,6 +60,13 @@ impl<'a> Program<'a> {
         })
     }
 
+    /// Returns the setup.
+    pub fn setup(&self) -> &Setup
+        ensures { result.now ≡ self.now }
+    {
+        self.setup
+    }
+
     /// Returns how many threads the program has.
     pub(crate) fn thread_count(&self) -> u32
         ensures value { result ≡ length self.now.threads }

@@ -13,8 +13,6 @@ verdict_of_plan text p (Refused i n) r e = (p, r, e)
 verdict_of_plan text p (Faulty f) r e = absurd e
 
 pub unreported : (text : List ℕ) (f : ReportFault) → length text ≤ limit → IsOfOutput f → IsUnreported text f
-unreported text (report.Script f) l h = absurd h
-unreported text (report.Trace f) l h = absurd h
-unreported text (report.Schedule i n) l h = absurd h
 unreported text report.Write l h = (l, h)
 unreported text report.Memory l h = (l, h)
+unreported text f l h = absurd h

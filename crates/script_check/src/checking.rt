@@ -3,6 +3,7 @@ ghost use Rattle.std.specs.Prelude.{◌≡◌, ◌≤◌, None, length, IfOk, If
 ghost use Rattle.scenario.specs.Setups.{setup_refusal};
 ghost use Rattle.script_check.specs.Verdicts.{Ends, IsVerdict, IsOfOutput, IsUnreported};
 
+use crate::document::Wording;
 use crate::refused::sentence_at;
 use crate::report::{Source, event_text, faults_text};
 use crate::verdict::Verdict;
@@ -38,7 +39,7 @@ fn refusal_text(
     events: &[Event],
     index: u32,
     refusal: Refusal,
-) -> Result<String, AllocError> {
+) -> Wording {
     let message = sentence_at(alloc, state, setup, events, index, refusal)?;
     event_text(alloc, source, index, message.as_str())
 }

@@ -8,6 +8,9 @@ use std::alloc::{AllocError, Global};
 /// The most characters of a value that a sentence quotes.
 const MOST_CHARACTERS: usize = 60;
 
+/// A sentence or a part of one, unless an allocation fails.
+pub(crate) type Wording = Result<String, AllocError>;
+
 /// Returns the value at a path, if there is one.
 pub(crate) fn value_at(document: &Value, path: Path) -> Option<&Value> {
     if let Key::Document = path.key {
@@ -25,7 +28,7 @@ pub(crate) fn value_at(document: &Value, path: Path) -> Option<&Value> {
 }
 
 /// Returns a text. If it has more than 60 characters, it is cut there and ends in two dots.
-pub(crate) fn cut(alloc: Global, text: &str) -> Result<String, AllocError> {
+pub(crate) fn cut(alloc: Global, text: &str) -> Wording {
     let mut out = String::new(alloc);
     for (i, character) in text.chars().enumerate() {
         if i == MOST_CHARACTERS {
@@ -37,8 +40,14 @@ pub(crate) fn cut(alloc: Global, text: &str) -> Result<String, AllocError> {
     Ok(out)
 }
 
+/// Returns the clause that a value isn't what is needed.
+pub(crate) fn but(alloc: Global, value: &Value, needed: &str) -> Wording {
+    let found = shown(alloc, value)?;
+    format!(in alloc; "{found}, but {needed}")
+}
+
 /// Returns a value as JSON in one line, cut after 60 characters.
-pub(crate) fn shown(alloc: Global, value: &Value) -> Result<String, AllocError> {
+pub(crate) fn shown(alloc: Global, value: &Value) -> Wording {
     let text = value.to_string(alloc)?;
     cut(alloc, text.as_str())
 }

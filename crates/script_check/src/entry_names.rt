@@ -1,9 +1,9 @@
 //! Sentences about entries that name an opcode or a flag where a number is required.
 
-use crate::document::shown;
+use crate::document::{Wording, shown};
 use sentences::{Unmodelled, is_modelled, opcode_of_name};
 use serde_json::Value;
-use std::alloc::{AllocError, Global};
+use std::alloc::Global;
 
 /// The keys of an entry.
 const KEYS: [&str; 9] = [
@@ -40,12 +40,9 @@ pub(crate) fn odd_member(entry: &Value) -> Option<(&'static str, &Value)> {
 fn flag_of_name(name: &str) -> Option<u8> {
     let upper = name.strip_prefix("IOSQE_").unwrap_or(name);
     let bare = upper.strip_prefix("iosqe_").unwrap_or(upper);
-    for (known, flag) in FLAGS {
-        if known.eq_ignore_ascii_case(bare) {
-            return Some(flag);
-        }
-    }
-    None
+    let mut flags = FLAGS.iter();
+    let (_, flag) = flags.find(|(known, _)| known.eq_ignore_ascii_case(bare))?;
+    Some(*flag)
 }
 
 // Returns the flags whose names are joined by `|`.
@@ -69,7 +66,7 @@ fn number_of(key: &str, value: &Value) -> Option<u8> {
 
 /// Returns the sentence about a value that isn't a whole number. If the value is a name, the
 /// sentence gives the number to write.
-pub(crate) fn odd_value(alloc: Global, key: &str, value: &Value) -> Result<String, AllocError> {
+pub(crate) fn odd_value(alloc: Global, key: &str, value: &Value) -> Wording {
     let shown = shown(alloc, value)?;
     match number_of(key, value) {
         Some(opcode) if key == "op" && !is_modelled(opcode) => {

@@ -1,6 +1,6 @@
 //! Sentences about the faults of a script: the value found, and what is allowed.
 
-use crate::document::{shown, value_at};
+use crate::document::{Wording, but, shown, value_at};
 use crate::entry_names::{odd_member, odd_value};
 use crate::ranges::range;
 use script::items::{is_entry_key, is_object_key, is_script_key};
@@ -55,10 +55,7 @@ fn event_of_word(word: &str) -> &'static str {
 
 /// Returns the word with which an instruction or an event begins.
 pub(crate) fn word_of(value: &Value) -> &str {
-    match value.get(0) {
-        Some(first) => first.as_str().unwrap_or(""),
-        None => "",
-    }
+    value.get(0).and_then(|first| first.as_str()).unwrap_or("")
 }
 
 /// Returns the form of a key's value.
@@ -97,15 +94,12 @@ fn form_of(path: Path, value: &Value) -> &'static str {
     }
 }
 
-// Returns the first unknown key of an entry, or of an object of a script.
-fn odd_key(value: &Value, is_entry: bool) -> Option<&str> {
+// Returns the first key of an object that isn't known.
+fn odd_key<F: Fn(&str) -> bool>(value: &Value, is_known: F) -> Option<&str>
+    requires { F.IsAlwaysCallable is_known }
+{
     for key in value.as_object()?.keys() {
-        let known = if is_entry {
-            is_entry_key(key.as_str())
-        } else {
-            is_object_key(key.as_str())
-        };
-        if !known {
+        if !is_known(key.as_str()) {
             return Some(key.as_str());
         }
     }
@@ -114,32 +108,26 @@ fn odd_key(value: &Value, is_entry: bool) -> Option<&str> {
 
 // Returns the entry of a put.
 fn entry_of(instruction: &Value) -> Option<&Value> {
-    if word_of(instruction) == "put" {
-        instruction.get(2)
-    } else {
-        None
-    }
+    let entry = instruction.get(2)?;
+    Some(entry).filter(|_| word_of(instruction) == "put")
 }
 
 // Returns the first unknown key of an item.
 fn odd_key_at(path: Path, value: &Value) -> Option<&str> {
     match (path.key, path.item, path.inner) {
-        (Key::Threads, _, Some(_)) => odd_key(entry_of(value)?, true),
-        (Key::Objects, Some(_), None) => odd_key(value, false),
+        (Key::Threads, _, Some(_)) => odd_key(entry_of(value)?, |key: &str| is_entry_key(key)),
+        (Key::Objects, Some(_), None) => odd_key(value, |key: &str| is_object_key(key)),
         _ => None,
     }
 }
 
 /// Returns whether a script has no such key.
 pub(crate) fn is_unknown(key: &Value) -> bool {
-    match key.as_str() {
-        Some(word) => !is_script_key(word),
-        None => false,
-    }
+    matches!(key.as_str(), Some(word) if !is_script_key(word))
 }
 
 /// Returns the sentence about an unknown key of a script.
-pub(crate) fn unknown_key(alloc: Global, key: &Value) -> Result<String, AllocError> {
+pub(crate) fn unknown_key(alloc: Global, key: &Value) -> Wording {
     let key = shown(alloc, key)?;
     format!(in alloc;
         "{key} is not a key of a script: its keys are entries, cq, sqpoll, submit_all, base, memory, objects, fds, threads and schedule"
@@ -147,7 +135,7 @@ pub(crate) fn unknown_key(alloc: Global, key: &Value) -> Result<String, AllocErr
 }
 
 // Returns the sentence about an unknown key of an entry, or of an object.
-fn unknown_inner_key(alloc: Global, path: Path, key: &str) -> Result<String, AllocError> {
+fn unknown_inner_key(alloc: Global, path: Path, key: &str) -> Wording {
     let key = shown(alloc, &Value::String(String::from_str(alloc, key)?))?;
     match path.key {
         Key::Threads => format!(in alloc;
@@ -167,7 +155,7 @@ fn odd_member_at(path: Path, value: &Value) -> Option<(&'static str, &Value)> {
     }
 }
 
-fn shape(alloc: Global, path: Path, value: Option<&Value>) -> Result<String, AllocError> {
+fn shape(alloc: Global, path: Path, value: Option<&Value>) -> Wording {
     let Some(value) = value else {
         let form = form_of_key(path.key);
         return format!(in alloc; "it is missing: {form}");
@@ -178,9 +166,7 @@ fn shape(alloc: Global, path: Path, value: Option<&Value>) -> Result<String, All
     if let Some((key, value)) = odd_member_at(path, value) {
         return odd_value(alloc, key, value);
     }
-    let found = shown(alloc, value)?;
-    let form = form_of(path, value);
-    format!(in alloc; "{found}, but {form}")
+    but(alloc, value, form_of(path, value))
 }
 
 // Returns the clause that states the limit at a path.
@@ -224,22 +210,15 @@ fn count_of(path: Path, value: &Value) -> Option<usize> {
     }
 }
 
-fn limit(alloc: Global, path: Path, value: Option<&Value>) -> Result<String, AllocError> {
-    let count = match value {
-        Some(value) => count_of(path, value).unwrap_or(0),
-        None => 0,
-    };
+fn limit(alloc: Global, path: Path, value: Option<&Value>) -> Wording {
+    let count = value.map_or(0, |value| count_of(path, value).unwrap_or(0));
     let things = thing_of(path);
     let most = most_of(path);
     format!(in alloc; "{count} {things}, but {most}")
 }
 
 /// Returns the sentence about a fault of a script.
-pub(crate) fn sentence(
-    alloc: Global,
-    document: &Value,
-    fault: ScriptFault,
-) -> Result<String, AllocError> {
+pub(crate) fn sentence(alloc: Global, document: &Value, fault: ScriptFault) -> Wording {
     match fault {
         ScriptFault::Shape(path) => shape(alloc, path, value_at(document, path)),
         ScriptFault::Range(path) => range(alloc, document, path),

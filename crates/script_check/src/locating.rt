@@ -11,19 +11,13 @@ pub(crate) struct Position {
 }
 
 impl Position {
-    // Returns the next position, given the byte at this one.
-    fn after(self, byte: u8) -> Position {
+    // Moves to the next position, given the byte at this one.
+    fn pass(&mut self, byte: u8) {
         if byte == b'\n' {
-            Position {
-                line: self.line.saturating_add(1),
-                column: 1,
-            }
-        } else {
-            Position {
-                line: self.line,
-                column: self.column.saturating_add(1),
-            }
+            self.line = self.line.saturating_add(1);
+            self.column = 0;
         }
+        self.column = self.column.saturating_add(1);
     }
 }
 
@@ -31,7 +25,7 @@ impl Position {
 pub(crate) fn position_of(text: &[u8], offset: usize) -> Position {
     let mut position = Position { line: 1, column: 1 };
     for byte in &text[..offset.min(text.len())] {
-        position = position.after(*byte);
+        position.pass(*byte);
     }
     position
 }
@@ -43,7 +37,7 @@ pub(crate) fn offset_at(text: &[u8], line: usize, column: usize) -> usize {
         if before.line == line && before.column == column {
             return offset;
         }
-        before = before.after(*byte);
+        before.pass(*byte);
     }
     text.len()
 }

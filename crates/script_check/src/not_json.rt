@@ -1,19 +1,16 @@
 //! Explains why a text isn't JSON, for mistakes that are common in scripts written by hand.
 
+use crate::document::Wording;
 use crate::locating::{Position, offset_at, position_of};
 use json_offsets::string_length;
 use serde_json::Error;
-use std::alloc::{AllocError, Global};
+use std::alloc::Global;
 
 /// The bytes EF BB BF, with which some editors begin a UTF-8 file.
 const BYTE_ORDER_MARK: [u8; 3] = [0xef, 0xbb, 0xbf];
 
-/// A mistake, and the offset at which it begins.
-#[derive(Clone, Copy)]
-struct Mistake {
-    offset: usize,
-    reason: &'static str,
-}
+/// The offset at which a mistake begins, and what it is.
+type Mistake = (usize, &'static str);
 
 // Returns the end of a word that begins at an offset: letters, digits, signs and points.
 fn end_of_word(text: &[u8], offset: usize) -> usize {
@@ -49,10 +46,10 @@ fn comment_at(text: &[u8], stop: usize) -> usize {
 
 // Returns whether a comment begins at an offset: `//`, `/*` or `#`.
 fn is_comment(text: &[u8], offset: usize) -> bool {
-    match text.get(offset..) {
-        Some([b'/', b'/' | b'*', ..] | [b'#', ..]) => true,
-        _ => false,
-    }
+    matches!(
+        text.get(offset..),
+        Some([b'/', b'/' | b'*', ..] | [b'#', ..])
+    )
 }
 
 // Returns the offset of the last byte before an offset that isn't white space.
@@ -75,10 +72,7 @@ fn trailing_comma(text: &[u8], offset: usize) -> Option<Mistake> {
     };
     let comma = last_before(text, offset)?;
     match text.get(comma) {
-        Some(b',') => Some(Mistake {
-            offset: comma,
-            reason,
-        }),
+        Some(b',') => Some((comma, reason)),
         _ => None,
     }
 }
@@ -86,35 +80,25 @@ fn trailing_comma(text: &[u8], offset: usize) -> Option<Mistake> {
 // Returns the mistake in a text, given where the parser stopped, if it is a common one.
 fn mistake_in(text: &[u8], stop: usize) -> Option<Mistake> {
     if text.starts_with(&BYTE_ORDER_MARK) {
-        return Some(Mistake {
-            offset: 0,
-            reason: "a byte-order mark is at the start: save the file as UTF-8 without one",
-        });
+        let reason = "a byte-order mark is at the start: save the file as UTF-8 without one";
+        return Some((0, reason));
     }
     let comment = comment_at(text, stop);
     if is_comment(text, comment) {
-        return Some(Mistake {
-            offset: comment,
-            reason: "comments aren't JSON",
-        });
+        return Some((comment, "comments aren't JSON"));
     }
     trailing_comma(text, stop)
 }
 
 /// Returns the line that reports a text that isn't JSON, given the parser's error.
-pub(crate) fn no_json(
-    alloc: Global,
-    name: &str,
-    text: &[u8],
-    error: &Error,
-) -> Result<String, AllocError> {
+pub(crate) fn no_json(alloc: Global, name: &str, text: &[u8], error: &Error) -> Wording {
     let line = error.line();
     let column = error.column();
     if error.is_eof() {
         return format!(in alloc; "{name}:{line}:{column}: the text ends within its JSON value\n");
     }
     match mistake_in(text, offset_at(text, line, column)) {
-        Some(Mistake { offset, reason }) => {
+        Some((offset, reason)) => {
             let Position { line, column } = position_of(text, offset);
             format!(in alloc; "{name}:{line}:{column}: {reason}\n")
         }

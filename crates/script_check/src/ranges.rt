@@ -1,12 +1,12 @@
 //! Sentences about numbers out of their range, and about unknown, invalid or repeated names.
 
-use crate::document::{shown, value_at};
+use crate::document::{Wording, but, shown, value_at};
 use crate::fault_sentences::{form_of_key, word_of};
 use scenario::{is_name, ring_size};
 use script::{Key, Path};
 use sentences::Counted;
 use serde_json::Value;
-use std::alloc::{AllocError, Global};
+use std::alloc::Global;
 
 /// The largest size of a submission ring.
 const MOST_ENTRIES: u32 = 4096;
@@ -16,6 +16,19 @@ const DESCRIPTORS: &str = "-2147483648 to 2147483647";
 
 /// The largest counter of an eventfd (eventfd(2)).
 const LARGEST_COUNTER: u64 = 18446744073709551614;
+
+/// What bytes of memory need.
+const WITHIN_MEMORY: &str = "its bytes must be within addresses 0 to 65535";
+
+/// What a descriptor needs.
+const NO_SUCH_OBJECT: &str =
+    "there is no such object or end: write the name of a file or an eventfd, and p:r or p:w for an end of a pipe p";
+
+/// The numbers of an object: the key, the least and the largest number, and what it is.
+const OBJECT_KEYS: [(&str, u64, u64, &str); 2] = [
+    ("pipe", 1, 65536, "a pipe's capacity"),
+    ("eventfd", 0, LARGEST_COUNTER, "an eventfd's counter"),
+];
 
 /// The keys of an entry, each with its largest number. `fd` is not among them: it is signed.
 const ENTRY_KEYS: [(&str, u64); 8] = [
@@ -31,12 +44,9 @@ const ENTRY_KEYS: [(&str, u64); 8] = [
 
 // Returns a value if it is a number from `low` to `high`.
 fn number_within(value: Option<&Value>, low: u64, high: u64) -> Option<u64> {
-    let number = value?.as_u64()?;
-    if low <= number && number <= high {
-        Some(number)
-    } else {
-        None
-    }
+    value?
+        .as_u64()
+        .filter(|number| low <= *number && *number <= high)
 }
 
 // Returns the number of entries of the submission ring, if it is in its range.
@@ -45,24 +55,21 @@ fn entries_of(document: &Value) -> Option<u32> {
     u32::try_from(entries).ok()
 }
 
-fn completion_ring(alloc: Global, document: &Value, cq: &Value) -> Result<String, AllocError> {
-    let value_text = shown(alloc, cq)?;
+fn completion_ring(alloc: Global, document: &Value, cq: &Value) -> Wording {
     match (number_within(Some(cq), 1, 8192), entries_of(document)) {
         (Some(_), Some(entries)) => {
+            let value_text = shown(alloc, cq)?;
             let size = ring_size(entries);
             format!(in alloc;
                 "{value_text}, but the completion ring can't be smaller than the submission ring, whose size is {size} (entries {entries})"
             )
         }
-        _ => {
-            let form = form_of_key(Key::Cq);
-            format!(in alloc; "{value_text}, but {form}")
-        }
+        _ => but(alloc, cq, form_of_key(Key::Cq)),
     }
 }
 
 // Returns the sentence about an object's name, which is missing, invalid or repeated.
-fn name(alloc: Global, object: &Value) -> Result<String, AllocError> {
+fn name(alloc: Global, object: &Value) -> Wording {
     let Some(name) = object.get("name") else {
         return String::from_str(alloc, "it has no name");
     };
@@ -77,26 +84,20 @@ fn name(alloc: Global, object: &Value) -> Result<String, AllocError> {
 }
 
 // Returns the sentence about an object's capacity, counter or name.
-fn object(alloc: Global, object: &Value) -> Result<String, AllocError> {
-    if let Some(capacity) = object.get("pipe") {
-        if number_within(Some(capacity), 1, 65536).is_none() {
-            let value_text = shown(alloc, capacity)?;
-            return format!(in alloc; "pipe {value_text}, but a pipe's capacity is 1 to 65536");
-        }
-    }
-    if let Some(number) = object.get("eventfd") {
-        if number_within(Some(number), 0, LARGEST_COUNTER).is_none() {
-            let value_text = shown(alloc, number)?;
-            return format!(in alloc;
-                "eventfd {value_text}, but an eventfd's counter is 0 to {LARGEST_COUNTER}"
-            );
+fn object(alloc: Global, object: &Value) -> Wording {
+    for (key, least, most, what) in OBJECT_KEYS {
+        if let Some(number) = object.get(key) {
+            if number_within(Some(number), least, most).is_none() {
+                let value_text = shown(alloc, number)?;
+                return format!(in alloc; "{key} {value_text}, but {what} is {least} to {most}");
+            }
         }
     }
     name(alloc, object)
 }
 
 // Returns the sentence about the first number of an entry that is out of its range.
-fn entry(alloc: Global, entry: &Value) -> Result<String, AllocError> {
+fn entry(alloc: Global, entry: &Value) -> Wording {
     for (key, most) in ENTRY_KEYS {
         if let Some(number) = entry.get(key) {
             if number_within(Some(number), 0, most).is_none() {
@@ -115,12 +116,7 @@ fn entry(alloc: Global, entry: &Value) -> Result<String, AllocError> {
 }
 
 // Returns the sentence about a put's slot, or about its entry.
-fn put(
-    alloc: Global,
-    document: &Value,
-    slot: &Value,
-    written: &Value,
-) -> Result<String, AllocError> {
+fn put(alloc: Global, document: &Value, slot: &Value, written: &Value) -> Wording {
     let entries = entries_of(document);
     let size = ring_size(entries.unwrap_or(MOST_ENTRIES));
     if slot.as_u64().unwrap_or(u64::MAX) < u64::from(size) {
@@ -139,7 +135,7 @@ fn put(
 // Returns the ranges of the numbers in an instruction or an event, by its first word.
 fn range_of_word(word: &str) -> &'static str {
     match word {
-        "store" => "its bytes must be within addresses 0 to 65535",
+        "store" => WITHIN_MEMORY,
         "close" => "a descriptor is -2147483648 to 2147483647",
         "tick" => "nanoseconds are 0 to 18446744073709551615",
         "finish" => "a row is 0 to 4294967295, and a short transfer moves 1 to 4294967295 bytes",
@@ -148,48 +144,27 @@ fn range_of_word(word: &str) -> &'static str {
 }
 
 // Returns the sentence about an instruction or an event.
-fn words(alloc: Global, document: &Value, value: &Value) -> Result<String, AllocError> {
+fn words(alloc: Global, document: &Value, value: &Value) -> Wording {
     let word = word_of(value);
     if word == "put" {
         if let (Some(slot), Some(written)) = (value.get(1), value.get(2)) {
             return put(alloc, document, slot, written);
         }
     }
-    let value_text = shown(alloc, value)?;
-    let needed = range_of_word(word);
-    format!(in alloc; "{value_text}, but {needed}")
-}
-
-// Returns the sentence about the number at a key.
-fn number(alloc: Global, key: Key, value: &Value) -> Result<String, AllocError> {
-    let value_text = shown(alloc, value)?;
-    let form = form_of_key(key);
-    format!(in alloc; "{value_text}, but {form}")
-}
-
-fn piece(alloc: Global, value: &Value) -> Result<String, AllocError> {
-    let value_text = shown(alloc, value)?;
-    format!(in alloc; "{value_text}, but its bytes must be within addresses 0 to 65535")
-}
-
-fn descriptor(alloc: Global, value: &Value) -> Result<String, AllocError> {
-    let value_text = shown(alloc, value)?;
-    format!(in alloc;
-        "{value_text}, but there is no such object or end: write the name of a file or an eventfd, and p:r or p:w for an end of a pipe p"
-    )
+    but(alloc, value, range_of_word(word))
 }
 
 /// Returns the sentence about the value at a path, which is out of its range.
-pub(crate) fn range(alloc: Global, document: &Value, path: Path) -> Result<String, AllocError> {
+pub(crate) fn range(alloc: Global, document: &Value, path: Path) -> Wording {
     let Some(value) = value_at(document, path) else {
         return String::from_str(alloc, "it is missing");
     };
     match path.key {
         Key::Cq => completion_ring(alloc, document, value),
-        Key::Memory => piece(alloc, value),
+        Key::Memory => but(alloc, value, WITHIN_MEMORY),
         Key::Objects => object(alloc, value),
-        Key::Fds => descriptor(alloc, value),
+        Key::Fds => but(alloc, value, NO_SUCH_OBJECT),
         Key::Threads | Key::Schedule => words(alloc, document, value),
-        key => number(alloc, key, value),
+        key => but(alloc, value, form_of_key(key)),
     }
 }

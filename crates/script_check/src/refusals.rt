@@ -1,5 +1,6 @@
 //! Sentences about events that are refused: why, and what must happen first.
 
+use crate::document::Wording;
 use entries::{EINVAL, IORING_SQ_CQ_OVERFLOW, Phase, Row};
 use links_drains::is_guard;
 use machine::{Event, Refusal, Setup, State, ring_size};
@@ -7,55 +8,25 @@ use opcodes::{Choice, is_timer};
 use places::{Place, Stage, Value};
 use script::EventText;
 use sentences::{Counted, ResultName, RowName, Unmodelled, is_modelled, why_unfinished};
-use std::alloc::{AllocError, Global};
+use std::alloc::Global;
 
 /// The most rows of a run.
 const MOST_ROWS: u32 = 65536;
 
-/// The bits of a ring's head or tail, which wrap around at 32 bits.
-const WORD: u64 = 0xffff_ffff;
-
-type Wording = Result<String, AllocError>;
-
-// Returns a row, if it exists.
-fn row_at(state: &State, number: u32) -> Option<Row> {
-    match state.value(Place::Request(number)) {
-        Some(Value::Requested(row)) => Some(row),
-        _ => None,
-    }
-}
-
-// Returns the number in a place, or 0 if there is none.
-fn number_at(state: &State, place: Place) -> u64 {
-    match state.value(place) {
-        Some(Value::Number(number)) => number,
-        _ => 0,
-    }
-}
-
 // Returns how many rows there are.
 fn row_count(state: &State) -> u32 {
     for number in 0..MOST_ROWS {
-        if row_at(state, number).is_none() {
+        if state.row(number).is_none() {
             return number;
         }
     }
     MOST_ROWS
 }
 
-// Returns how many entries or completions a ring has, by its head and its tail (io_uring(7)).
-fn waiting(state: &State, head: Place, tail: Place) -> u64 {
-    number_at(state, tail).wrapping_sub(number_at(state, head)) & WORD
-}
-
-fn completions_waiting(state: &State) -> u64 {
-    waiting(state, Place::CompletionHead, Place::CompletionTail)
-}
-
 // Returns the clause that says how completions get into the ring. While the backlog has some, new
 // ones are added to the backlog.
 fn remedy_for_completions(state: &State) -> &'static str {
-    if number_at(state, Place::SubmissionFlags) & IORING_SQ_CQ_OVERFLOW as u64 == 0 {
+    if state.submissions().flags() & IORING_SQ_CQ_OVERFLOW == 0 {
         "requests must complete first"
     } else {
         "the backlog has some, which an enter with IORING_ENTER_GETEVENTS (flags 1) flushes into the ring"
@@ -85,7 +56,7 @@ fn still_waiting(alloc: Global, state: &State, thread: u32) -> Wording {
         _ => 0,
     };
     let needed = Counted::completions(u64::from(needed));
-    let ready = completions_waiting(state);
+    let ready = state.completions().waiting();
     let remedy = remedy_for_completions(state);
     format!(in alloc;
         "the thread waits in its enter for {needed}, and the ring has {ready}: {remedy}"
@@ -154,25 +125,8 @@ fn completed(alloc: Global, name: RowName, row: &Row, res: i32) -> Wording {
     format!(in alloc; "row {name} has completed with {result}")
 }
 
-fn not_eligible(alloc: Global, state: &State, setup: &Setup, number: u32, row: &Row) -> Wording {
-    let name = RowName::new(number, row);
-    let reason = why_unfinished(alloc, setup, state, number)?;
-    let remedy = if is_guard(row) {
-        "Issue that row."
-    } else {
-        "That row must complete first."
-    };
-    format!(in alloc; "row {name} can't be issued. {reason} {remedy}")
-}
-
-fn not_ready(alloc: Global, state: &State, setup: &Setup, number: u32, row: &Row) -> Wording {
-    let name = RowName::new(number, row);
-    let reason = why_unfinished(alloc, setup, state, number)?;
-    format!(in alloc; "row {name} can't complete. {reason} That must come first.")
-}
-
 fn not_due(alloc: Global, state: &State, name: RowName, row: &Row) -> Wording {
-    let clock = number_at(state, Place::Clock);
+    let clock = state.clock();
     match row.deadline {
         Some(deadline) if deadline > u128::from(u64::MAX) => format!(in alloc;
             "row {name} is due at {deadline}, after the end of the clock"
@@ -211,13 +165,23 @@ fn of_row(
     event: Event,
     refusal: Refusal,
 ) -> Wording {
-    let Some(row) = row_at(state, number) else {
+    let Some(row) = state.row(number) else {
         return no_such_row(alloc, state);
     };
     let name = RowName::new(number, &row);
     match (refusal, event) {
-        (Refusal::NotEligible, _) => not_eligible(alloc, state, setup, number, &row),
-        (Refusal::NotReady, _) => not_ready(alloc, state, setup, number, &row),
+        (Refusal::NotEligible, _) if is_guard(&row) => {
+            let reason = why_unfinished(alloc, setup, state, number)?;
+            format!(in alloc; "row {name} can't be issued. {reason} Issue that row.")
+        }
+        (Refusal::NotEligible, _) => {
+            let reason = why_unfinished(alloc, setup, state, number)?;
+            format!(in alloc; "row {name} can't be issued. {reason} That row must complete first.")
+        }
+        (Refusal::NotReady, _) => {
+            let reason = why_unfinished(alloc, setup, state, number)?;
+            format!(in alloc; "row {name} can't complete. {reason} That must come first.")
+        }
         (Refusal::NotDue, _) => not_due(alloc, state, name, &row),
         (Refusal::BadChoice, Event::Finish(_, choice)) => bad_choice(alloc, name, choice),
         _ => wrong_phase(alloc, name, &row, event),
@@ -235,8 +199,7 @@ fn of_poller(alloc: Global, state: &State, refusal: Refusal) -> Wording {
             "the poller is asleep: an enter with IORING_ENTER_SQ_WAKEUP (flags 2) wakes it",
         ),
         Refusal::NotIdle => {
-            let waiting = waiting(state, Place::SubmissionHead, Place::SubmissionTail);
-            let entries = Counted::entries(waiting);
+            let entries = Counted::entries(u64::from(state.submissions().waiting()));
             format!(in alloc; "the submission ring has {entries}: take all of them first")
         }
         _ => too_many(alloc),
@@ -244,8 +207,7 @@ fn of_poller(alloc: Global, state: &State, refusal: Refusal) -> Wording {
 }
 
 fn late_tick(alloc: Global, state: &State) -> Wording {
-    let clock = number_at(state, Place::Clock);
-    let end = u64::MAX;
+    let (clock, end) = (state.clock(), u64::MAX);
     format!(in alloc; "the clock is at {clock}, and can't pass {end}")
 }
 
@@ -267,7 +229,7 @@ pub(crate) fn sentence(
     setup: &Setup,
     event: Event,
     refusal: Refusal,
-) -> Result<String, AllocError> {
+) -> Wording {
     let words = EventText(event);
     let number = refusal as u32;
     let reason = reason(alloc, state, setup, event, refusal)?;

@@ -2,6 +2,7 @@
 ghost use Rattle.std.specs.Prelude.{◌≡◌, ◌≤◌, None, length};
 ghost use Rattle.scenario.specs.Setups.{setup_refusal};
 
+use crate::document::Wording;
 use crate::refusals::sentence;
 use machine::{Event, Refusal, Setup, State};
 use runs::{Ended, drive};
@@ -15,7 +16,7 @@ pub(crate) fn sentence_at(
     events: &[Event],
     index: u32,
     refusal: Refusal,
-) -> Result<String, AllocError> {
+) -> Wording {
     match events.get(index as usize) {
         Some(event) => sentence(alloc, state, setup, *event, refusal),
         None => Ok(String::new(alloc)),

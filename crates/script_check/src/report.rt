@@ -1,8 +1,9 @@
 //! The lines that report what is wrong with a script.
 
+use crate::document::Wording;
 use crate::fault_sentences::{is_unknown, sentence, unknown_key};
 use crate::further::{MOST_FAULTS, faults_of};
-use crate::locating::{key_word, offset_of, position_of};
+use crate::locating::{Position, key_word, offset_of, position_of};
 use crate::not_json::no_json;
 use json_offsets::{Member, members_of};
 use script::items::{item_path, key_path};
@@ -26,7 +27,7 @@ struct Lines {
 }
 
 // Returns a path as text, such as `threads 0 3`: its key and its indexes.
-fn path_text(alloc: Global, path: Path) -> Result<String, AllocError> {
+fn path_text(alloc: Global, path: Path) -> Wording {
     let word = key_word(path.key);
     match (path.item, path.inner) {
         (Some(item), Some(inner)) => format!(in alloc; "{word} {item} {inner}"),
@@ -57,9 +58,7 @@ impl Lines {
         }
         self.count = self.count.saturating_add(1);
         let name = source.name;
-        let position = position_of(source.text, offset);
-        let line = position.line;
-        let column = position.column;
+        let Position { line, column } = position_of(source.text, offset);
         let path = path_text(self.alloc, path)?;
         let message = format!(in self.alloc; "{name}:{line}:{column}: {path}: {sentence}\n")?;
         self.out.push_str(message.as_str())
@@ -104,12 +103,7 @@ fn path_of(fault: ScriptFault) -> Path {
     }
 }
 
-fn fault_lines(
-    alloc: Global,
-    source: Source<'_>,
-    document: &Value,
-    first: ScriptFault,
-) -> Result<String, AllocError> {
+fn fault_lines(alloc: Global, source: Source<'_>, document: &Value, first: ScriptFault) -> Wording {
     let members = members_of(alloc, source.text)?;
     let mut lines = Lines::new(alloc);
     lines.add_fault(source, &members, document, first)?;
@@ -118,20 +112,12 @@ fn fault_lines(
             lines.add_fault(source, &members, document, *fault)?;
         }
     }
-    let Lines {
-        alloc: _,
-        out,
-        count: _,
-    } = lines;
+    let Lines { out, .. } = lines;
     Ok(out)
 }
 
 /// Returns the lines that report a script's faults, beginning with `first`.
-pub(crate) fn faults_text(
-    alloc: Global,
-    source: Source<'_>,
-    first: ScriptFault,
-) -> Result<String, AllocError> {
+pub(crate) fn faults_text(alloc: Global, source: Source<'_>, first: ScriptFault) -> Wording {
     match Value::from_slice(alloc, source.text) {
         Ok(document) => fault_lines(alloc, source, &document, first),
         Err(error) => {
@@ -144,21 +130,12 @@ pub(crate) fn faults_text(
 }
 
 /// Returns the line of a sentence about an event of the schedule.
-pub(crate) fn event_text(
-    alloc: Global,
-    source: Source<'_>,
-    index: u32,
-    sentence: &str,
-) -> Result<String, AllocError> {
+pub(crate) fn event_text(alloc: Global, source: Source<'_>, index: u32, sentence: &str) -> Wording {
     let members = members_of(alloc, source.text)?;
     let path = item_path(Key::Schedule, index);
     let offset = offset_of(source.text, &members, path);
     let mut lines = Lines::new(alloc);
     lines.add(source, offset, path, sentence)?;
-    let Lines {
-        alloc: _,
-        out,
-        count: _,
-    } = lines;
+    let Lines { out, .. } = lines;
     Ok(out)
 }

@@ -1,8 +1,7 @@
 //! Ranges of memory, and which bytes of one an event wrote.
 
-use crate::run::Run;
+use crate::run::{Run, Text};
 use machine::{Event, Instruction};
-use std::alloc::{AllocError, Global};
 use std::fmt;
 
 /// A range of at least one byte of memory, by its first and last address.
@@ -72,15 +71,9 @@ fn overwritten_at(run: &Run<'_>, moment: u32, first: u64, count: u64) -> Option<
 }
 
 /// Returns which bytes of a range of memory the event at a moment wrote, as words.
-pub(super) fn overwritten(
-    alloc: Global,
-    run: &Run<'_>,
-    moment: u32,
-    first: u64,
-    count: u64,
-) -> Result<String, AllocError> {
+pub(super) fn overwritten(run: &Run<'_>, moment: u32, first: u64, count: u64) -> Text {
     match overwritten_at(run, moment, first, count) {
-        Some(bytes) => format!(in alloc; "{bytes}"),
-        None => String::from_str(alloc, "bytes"),
+        Some(bytes) => format!(in run.alloc(); "{bytes}"),
+        None => String::from_str(run.alloc(), "bytes"),
     }
 }

@@ -11,63 +11,43 @@ pub struct Counted {
 }
 
 impl Counted {
-    pub fn bytes(count: u64) -> Counted {
+    fn new(count: u64, one: &'static str, several: &'static str) -> Counted {
         Counted {
             count,
-            one: "byte",
-            several: "bytes",
+            one,
+            several,
         }
+    }
+
+    pub fn bytes(count: u64) -> Counted {
+        Counted::new(count, "byte", "bytes")
     }
 
     pub fn completions(count: u64) -> Counted {
-        Counted {
-            count,
-            one: "completion",
-            several: "completions",
-        }
+        Counted::new(count, "completion", "completions")
     }
 
     pub fn entries(count: u64) -> Counted {
-        Counted {
-            count,
-            one: "entry",
-            several: "entries",
-        }
+        Counted::new(count, "entry", "entries")
     }
 
     pub fn rows(count: u64) -> Counted {
-        Counted {
-            count,
-            one: "row",
-            several: "rows",
-        }
+        Counted::new(count, "row", "rows")
     }
 
     pub fn slots(count: u64) -> Counted {
-        Counted {
-            count,
-            one: "slot",
-            several: "slots",
-        }
+        Counted::new(count, "slot", "slots")
     }
 
     pub fn threads(count: u64) -> Counted {
-        Counted {
-            count,
-            one: "thread",
-            several: "threads",
-        }
+        Counted::new(count, "thread", "threads")
     }
 }
 
 impl fmt::Display for Counted {
     fn fmt<W: fmt::Write>(&self, f: &mut fmt::Formatter<W>) -> fmt::Result {
-        let Counted {
-            count,
-            one,
-            several,
-        } = self;
-        let noun = if *count == 1 { one } else { several };
+        let count = self.count;
+        let noun = if count == 1 { self.one } else { self.several };
         write!(f, "{count} {noun}")
     }
 }

@@ -6,7 +6,7 @@ use crate::names::ResultName;
 use crate::objects::{reason_of_descriptor, reason_of_object};
 use crate::opcode_names::{Unmodelled, is_modelled};
 use crate::rules::ERROR_RULE;
-use crate::run::Run;
+use crate::run::{Run, Text};
 use crate::submitting::{left_out, reason_of_entry};
 use entries::{EBADF, EFAULT, EFBIG, EINVAL, EPIPE, Sqe};
 use machine::Event;
@@ -21,40 +21,24 @@ const LEVEL_MASK: u16 = 7;
 /// IOPRIO_CLASS_IDLE, the last class.
 const IDLE_CLASS: u16 = 3;
 
-fn word_of_end(res: i32) -> &'static str {
-    if res == -EFAULT {
-        return "its buffer extends past the end of memory";
-    }
-    if res == -EFBIG {
-        return "a file can't grow that far";
-    }
-    if res == -EPIPE {
-        return "the pipe has no reader";
-    }
-    "it could not be carried out"
-}
-
 // Returns why a request failed after it was issued, or as it was issued.
-fn reason_of_end(
-    alloc: Global,
-    run: &Run<'_>,
-    entry: &Sqe,
-    res: i32,
-) -> Result<String, AllocError> {
-    if res == -EBADF {
-        return reason_of_descriptor(alloc, run, entry);
-    }
-    if res == -EINVAL {
-        return reason_of_object(alloc, run, entry);
-    }
-    String::from_str(alloc, word_of_end(res))
+fn reason_of_end(run: &Run<'_>, entry: &Sqe, res: i32) -> Text {
+    let reason = match res.wrapping_neg() {
+        EBADF => return reason_of_descriptor(run, entry),
+        EINVAL => return reason_of_object(run, entry),
+        EFAULT => "its buffer extends past the end of memory",
+        EFBIG => "a file can't grow that far",
+        EPIPE => "the pipe has no reader",
+        _ => "it could not be carried out",
+    };
+    String::from_str(run.alloc(), reason)
 }
 
-fn reason(alloc: Global, run: &Run<'_>, about: &About, res: i32) -> Result<String, AllocError> {
+fn reason(run: &Run<'_>, about: &About, res: i32) -> Text {
     match run.event(about.moment) {
-        Some(Event::Step(_) | Event::Take(_)) => reason_of_entry(alloc, run, about, res),
-        Some(Event::Finish(_, Choice::Eio)) => String::from_str(alloc, "the device failed"),
-        _ => reason_of_end(alloc, run, &about.row.entry, res),
+        Some(Event::Step(_) | Event::Take(_)) => reason_of_entry(run, about, res),
+        Some(Event::Finish(_, Choice::Eio)) => String::from_str(run.alloc(), "the device failed"),
+        _ => reason_of_end(run, &about.row.entry, res),
     }
 }
 
@@ -75,32 +59,27 @@ fn is_of_opcode(about: &About, res: i32) -> bool {
 }
 
 /// Returns the sentence of a request that completed with an error.
-pub(crate) fn failed(alloc: Global, run: &Run<'_>, about: &About) -> Result<String, AllocError> {
+pub(crate) fn failed(run: &Run<'_>, about: &About) -> Text {
     let name = about.name();
     let res = about.result(run);
     let result = ResultName(res);
     let stage = stage(run, about.moment);
     if is_of_opcode(about, res) {
         let opcode = Unmodelled(about.row.entry.opcode);
-        return format!(in alloc;
+        return format!(in run.alloc();
             "Row {name} completed with {result}{stage}; {opcode} {ERROR_RULE}."
         );
     }
-    let reason = reason(alloc, run, about, res)?;
-    format!(in alloc; "Row {name} completed with {result}{stage}: {reason} {ERROR_RULE}.")
+    let reason = reason(run, about, res)?;
+    format!(in run.alloc(); "Row {name} completed with {result}{stage}: {reason} {ERROR_RULE}.")
 }
 
 /// Returns why a READ or WRITE moved fewer bytes than requested.
 pub(crate) fn reason_of_short(run: &Run<'_>, about: &About) -> &'static str {
     match run.event(about.moment) {
         Some(Event::Finish(_, Choice::Short(_))) => "the schedule makes it short",
-        _ => {
-            if about.row.entry.opcode == Op::Read as u8 {
-                "no more could be read"
-            } else {
-                "no more could be written"
-            }
-        }
+        _ if about.row.entry.opcode == Op::Read as u8 => "no more could be read",
+        _ => "no more could be written",
     }
 }
 
@@ -147,7 +126,7 @@ fn is_invalid_to_kernel(entry: &Sqe) -> bool {
 }
 
 /// Returns the sentence of an entry that sets fields without effect.
-pub(crate) fn no_effect(alloc: Global, about: &About) -> Result<String, AllocError> {
+pub(crate) fn no_effect(alloc: Global, about: &About) -> Text {
     let name = about.name();
     let (fields, are_several) = named_fields(alloc, &about.row.entry)?;
     let (verb, object) = if are_several {

@@ -22,7 +22,7 @@ impl Listing {
     }
 
     /// Adds a row.
-    pub fn add(&mut self, alloc: Global, run: &Run<'_>, number: u32) -> Result<(), AllocError> {
+    pub fn add(&mut self, run: &Run<'_>, number: u32) -> Result<(), AllocError> {
         self.count = self.count.saturating_add(1);
         if self.count > NAMED {
             return Ok(());
@@ -34,7 +34,7 @@ impl Listing {
             self.text.push_str(", ")?;
         }
         self.text
-            .push_str(format!(in alloc; "row {name}")?.as_str())
+            .push_str(format!(in run.alloc(); "row {name}")?.as_str())
     }
 
     /// Returns the names, separated by commas, and how many more rows there are.

@@ -25,12 +25,8 @@ impl RowName {
 
 impl fmt::Display for RowName {
     fn fmt<W: fmt::Write>(&self, f: &mut fmt::Formatter<W>) -> fmt::Result {
-        let RowName {
-            number,
-            opcode,
-            user_data,
-        } = self;
-        let operation = OpcodeName(*opcode);
+        let (number, user_data) = (self.number, self.user_data);
+        let operation = OpcodeName(self.opcode);
         write!(f, "{number} ({operation}, user_data {user_data})")
     }
 }

@@ -1,12 +1,12 @@
 //! Why a descriptor, or its object, refuses a request.
 
-use crate::run::Run;
+use crate::run::{Run, Text};
 use entries::Sqe;
 use finding_kinds::{FIRST_DESCRIPTOR, descriptor_number};
 use machine::Setup;
 use opcodes::{Op, fits_end};
 use places::{Contents, Descriptor, End};
-use std::alloc::{AllocError, Global};
+use std::alloc::Global;
 
 /// The fewest bytes that a READ or WRITE of an eventfd may request (eventfd(2)).
 const EVENT_BYTES: u32 = 8;
@@ -27,17 +27,13 @@ fn word_of_end(fits: bool, end: End) -> &'static str {
 }
 
 /// Returns why the descriptor of an entry can't be used.
-pub(super) fn reason_of_descriptor(
-    alloc: Global,
-    run: &Run<'_>,
-    entry: &Sqe,
-) -> Result<String, AllocError> {
+pub(super) fn reason_of_descriptor(run: &Run<'_>, entry: &Sqe) -> Text {
     let fd = entry.fd;
     let reason = match descriptor_at(run.setup, entry.fd) {
         Some(Descriptor { end, .. }) => word_of_end(fits_end(entry.opcode, end), end),
         None => "is not open",
     };
-    format!(in alloc; "its descriptor {fd} {reason}")
+    format!(in run.alloc(); "its descriptor {fd} {reason}")
 }
 
 fn kind_of(contents: &Contents) -> &'static str {
@@ -49,11 +45,7 @@ fn kind_of(contents: &Contents) -> &'static str {
 }
 
 // Returns why an object with these contents refuses an entry.
-fn reason_of_contents(
-    alloc: Global,
-    entry: &Sqe,
-    contents: &Contents,
-) -> Result<String, AllocError> {
+fn reason_of_contents(alloc: Global, entry: &Sqe, contents: &Contents) -> Text {
     let kind = kind_of(contents);
     if entry.opcode == Op::Fsync as u8 {
         return format!(in alloc; "its object is {kind}, and FSYNC needs a file");
@@ -75,17 +67,11 @@ fn reason_of_contents(
 }
 
 /// Returns why the object of an entry's descriptor refuses the entry.
-pub(super) fn reason_of_object(
-    alloc: Global,
-    run: &Run<'_>,
-    entry: &Sqe,
-) -> Result<String, AllocError> {
-    let object = match descriptor_at(run.setup, entry.fd) {
-        Some(descriptor) => run.setup.objects.as_slice().get(descriptor.object as usize),
-        None => None,
-    };
+pub(super) fn reason_of_object(run: &Run<'_>, entry: &Sqe) -> Text {
+    let objects = run.setup.objects.as_slice();
+    let object = descriptor_at(run.setup, entry.fd).and_then(|it| objects.get(it.object as usize));
     match object {
-        Some(object) => reason_of_contents(alloc, entry, &object.contents),
-        None => String::from_str(alloc, "its object refuses such a request"),
+        Some(object) => reason_of_contents(run.alloc(), entry, &object.contents),
+        None => String::from_str(run.alloc(), "its object refuses such a request"),
     }
 }

@@ -79,12 +79,10 @@ pub fn opcode_name(opcode: u8) -> Option<&'static str> {
 pub fn opcode_of_name(name: &str) -> Option<u8> {
     let upper = name.strip_prefix("IORING_OP_").unwrap_or(name);
     let bare = upper.strip_prefix("ioring_op_").unwrap_or(upper);
-    for (number, known) in NAMES.iter().enumerate() {
-        if known.eq_ignore_ascii_case(bare) {
-            return u8::try_from(number).ok();
-        }
-    }
-    None
+    let number = NAMES
+        .iter()
+        .position(|known| known.eq_ignore_ascii_case(bare))?;
+    u8::try_from(number).ok()
 }
 
 /// An opcode, which prints as its name, or as its number if it has none.
@@ -113,15 +111,10 @@ pub struct Unmodelled(pub u8);
 impl fmt::Display for Unmodelled {
     fn fmt<W: fmt::Write>(&self, f: &mut fmt::Formatter<W>) -> fmt::Result {
         let Unmodelled(opcode) = self;
-        match opcode_name(*opcode) {
-            Some(name) => write!(
-                f,
-                "opcode {opcode} ({name}) isn't modelled: it completes with EINVAL"
-            ),
-            None => write!(
-                f,
-                "opcode {opcode} isn't modelled: it completes with EINVAL"
-            ),
+        write!(f, "opcode {opcode}")?;
+        if let Some(name) = opcode_name(*opcode) {
+            write!(f, " ({name})")?;
         }
+        f.write_str(" isn't modelled: it completes with EINVAL")
     }
 }

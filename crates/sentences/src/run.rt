@@ -3,10 +3,16 @@
 use crate::names::RowName;
 use entries::{ECANCELED, Phase, Row};
 use finding_kinds::{
-    EndedKind, Finding, History, Kind, Retry, Times, descriptor_number, instruction_at,
+    EndedKind, Finding, History, Kind, MOST_ROWS, Retry, Times, descriptor_number, instruction_at,
+    number_at,
 };
 use machine::{Event, Instruction, Setup, State};
-use places::{Place, Value};
+use places::Place;
+use std::alloc::{AllocError, Global};
+use std::fmt;
+
+/// A text, unless an allocation fails.
+pub(crate) type Text = Result<String, AllocError>;
 
 /// A run, with its history and its findings.
 #[derive(Clone, Copy)]
@@ -27,7 +33,18 @@ pub struct ThreadStep {
     pub instruction: u32,
 }
 
+impl fmt::Display for ThreadStep {
+    fn fmt<W: fmt::Write>(&self, f: &mut fmt::Formatter<W>) -> fmt::Result {
+        let (thread, instruction) = (self.thread, self.instruction);
+        write!(f, "thread {thread}, instruction {instruction}")
+    }
+}
+
 impl Run<'_> {
+    pub(crate) fn alloc(&self) -> Global {
+        *self.history.rows.allocator()
+    }
+
     /// Returns a row as it is at the end, if there is one with this number.
     pub(crate) fn row(&self, number: u32) -> Option<Row> {
         self.state.row(number)
@@ -36,10 +53,26 @@ impl Run<'_> {
     /// Returns the number in a place at the end: a ring word, a counter or a flag word. Returns 0
     /// if the place holds no number.
     pub(crate) fn number(&self, place: Place) -> u64 {
-        match self.state.value(place) {
-            Some(Value::Number(number)) => number,
-            _ => 0,
+        number_at(self.state, place).unwrap_or(0)
+    }
+
+    /// Returns how many rows there are.
+    pub(crate) fn row_count(&self) -> u32 {
+        self.history.rows.len().min(MOST_ROWS as usize) as u32
+    }
+
+    /// Returns the first row from a number on that passes a test.
+    pub(crate) fn find<F: Fn(u32, &Row) -> bool>(&self, from: u32, test: F) -> Option<u32>
+        requires { F.IsAlwaysCallable test }
+    {
+        for number in from..self.row_count() {
+            if let Some(row) = self.row(number) {
+                if test(number, &row) {
+                    return Some(number);
+                }
+            }
         }
+        None
     }
 
     pub(crate) fn name(&self, number: u32) -> Option<RowName> {
@@ -104,12 +137,9 @@ impl Run<'_> {
     /// Returns the moment before the event that closed a descriptor of the setup.
     pub(crate) fn close_of(&self, fd: i32) -> Option<u32> {
         let descriptor = descriptor_number(fd)?;
-        for closed in &self.history.closes {
-            if closed.descriptor == descriptor {
-                return Some(closed.moment);
-            }
-        }
-        None
+        let mut closes = self.history.closes.iter();
+        let close = closes.find(|closed| closed.descriptor == descriptor)?;
+        Some(close.moment)
     }
 
     /// Returns what the history says about an FSYNC that completed at a moment, if earlier ones of
@@ -117,23 +147,14 @@ impl Run<'_> {
     pub(crate) fn retried_at(&self, moment: u32) -> Option<&Retry> {
         let list = &self.history.retries;
         let index = list.partition_point(|retry| retry.moment < moment);
-        let retry = list.get(index)?;
-        if retry.moment == moment {
-            Some(retry)
-        } else {
-            None
-        }
+        list.get(index).filter(|retry| retry.moment == moment)
     }
 
     /// Returns the first slot whose entry names a descriptor that the event at a moment closed.
     pub(crate) fn slot(&self, moment: u32) -> Option<u32> {
         let slots = &self.history.slots;
-        let met = slots.get(slots.partition_point(|met| met.moment < moment))?;
-        if met.moment == moment {
-            Some(met.slot)
-        } else {
-            None
-        }
+        let index = slots.partition_point(|met| met.moment < moment);
+        Some(slots.get(index).filter(|met| met.moment == moment)?.slot)
     }
 
     /// Returns the first moment after one at which the backlog was empty again.
@@ -147,38 +168,25 @@ impl Run<'_> {
     pub(crate) fn dropped_at(&self, moment: u32) -> u32 {
         let dropped = &self.history.dropped;
         let index = dropped.partition_point(|(at, _)| *at < moment);
+        let last = index.checked_sub(1).and_then(|last| dropped.get(last));
+        let before = last.map_or(0, |(_, count)| *count);
         match dropped.get(index) {
-            Some((at, count)) if *at == moment => count.saturating_sub(self.dropped_before(index)),
+            Some((at, count)) if *at == moment => count.saturating_sub(before),
             _ => 0,
-        }
-    }
-
-    // Returns sq.dropped before an event that dropped indexes, by its index among those events.
-    fn dropped_before(&self, index: usize) -> u32 {
-        let count = match index.checked_sub(1) {
-            Some(last) => self.history.dropped.get(last),
-            None => None,
-        };
-        match count {
-            Some((_, count)) => *count,
-            None => 0,
         }
     }
 
     /// Returns whether a row completed by the event at a moment.
     pub(crate) fn ends_at(&self, number: u32, moment: u32) -> bool {
-        match self.times_of(number) {
-            Some(times) => times.ended == Some(moment),
-            None => false,
-        }
+        matches!(self.times_of(number), Some(times) if times.ended == Some(moment))
     }
 
     /// Returns whether a row completed by the event at a moment, or by a later one.
     pub(crate) fn ends_since(&self, number: u32, moment: u32) -> bool {
-        match self.times_of(number) {
-            Some(times) => times.ended.is_some() && !times.has_ended_at(moment),
-            None => false,
-        }
+        matches!(
+            self.times_of(number),
+            Some(times) if times.ended.is_some() && !times.has_ended_at(moment)
+        )
     }
 
     /// Returns whether a row completed with ECANCELED by the event at a moment.
@@ -186,14 +194,10 @@ impl Run<'_> {
         self.ends_at(number, moment) && self.result(number) == Some(-ECANCELED)
     }
 
-    fn unit(&self, number: u32) -> Option<u32> {
-        Some(self.row(number)?.unit)
-    }
-
     /// Returns whether two rows belong to one chain.
     pub(crate) fn are_of_one_chain(&self, first: u32, second: u32) -> bool {
-        match (self.unit(first), self.unit(second)) {
-            (Some(one), Some(other)) => one == other,
+        match (self.row(first), self.row(second)) {
+            (Some(one), Some(other)) => one.unit == other.unit,
             _ => false,
         }
     }

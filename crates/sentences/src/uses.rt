@@ -1,28 +1,22 @@
 //! Sentences about puts into pushed slots, and closes of descriptors that are used or closed.
 
 use crate::listing::Listing;
-use crate::run::Run;
+use crate::run::{Run, Text};
 use entries::Row;
-use finding_kinds::MOST_ROWS;
 use machine::Instruction;
 use opcodes::uses_descriptor;
-use std::alloc::{AllocError, Global};
+use std::alloc::Global;
 
 const RULE: &str = "(close(2), io_uring_enter(2))";
 
 /// Returns the sentence of an entry that was changed before it was submitted.
-pub(crate) fn slot_in_use(
-    alloc: Global,
-    run: &Run<'_>,
-    thread: u32,
-    moment: u32,
-) -> Result<String, AllocError> {
+pub(crate) fn slot_in_use(run: &Run<'_>, thread: u32, moment: u32) -> Text {
     let slot = match run.instruction(moment) {
         Some(Instruction::Put(slot, _)) => *slot,
         _ => 0,
     };
     let counter = run.counter(moment).unwrap_or(0);
-    format!(in alloc;
+    format!(in run.alloc();
         "The put of thread {thread}, instruction {counter}, changes slot {slot}, whose entry was pushed and is not yet submitted: the submission takes what the slot has by then (io_uring(7))."
     )
 }
@@ -74,26 +68,19 @@ fn is_user(
 }
 
 // Lists the rows that use a descriptor in this phase.
-fn users(
-    alloc: Global,
-    run: &Run<'_>,
-    fd: i32,
-    moment: u32,
-    user_phase: UserPhase,
-) -> Result<String, AllocError> {
-    let mut rows = Listing::new(alloc);
-    for number in 0..run.history.rows.len().min(MOST_ROWS as usize) as u32 {
-        if let Some(row) = run.row(number) {
-            if is_user(run, number, &row, fd, moment, user_phase) {
-                rows.add(alloc, run, number)?;
-            }
+fn users(run: &Run<'_>, fd: i32, moment: u32, user_phase: UserPhase) -> Text {
+    let mut rows = Listing::new(run.alloc());
+    for number in 0..run.row_count() {
+        if matches!(run.row(number), Some(row) if is_user(run, number, &row, fd, moment, user_phase))
+        {
+            rows.add(run, number)?;
         }
     }
-    rows.finish(alloc)
+    rows.finish(run.alloc())
 }
 
 // Returns the list of queued rows that name a descriptor, and the slot whose entry names it.
-fn with_slot(alloc: Global, mut rows: String, slot: Option<u32>) -> Result<String, AllocError> {
+fn with_slot(alloc: Global, mut rows: String, slot: Option<u32>) -> Text {
     if !rows.is_empty() {
         rows.push_str(", still queued")?;
     }
@@ -117,38 +104,27 @@ fn closed_at(run: &Run<'_>, moment: u32) -> i32 {
 }
 
 /// Returns the sentence of a descriptor that was closed while rows in this phase use it.
-pub(crate) fn closed(
-    alloc: Global,
-    run: &Run<'_>,
-    thread: u32,
-    moment: u32,
-    user_phase: UserPhase,
-) -> Result<String, AllocError> {
+pub(crate) fn closed(run: &Run<'_>, thread: u32, moment: u32, user_phase: UserPhase) -> Text {
     let fd = closed_at(run, moment);
     let counter = run.counter(moment).unwrap_or(0);
     let used = user_phase.verb();
-    let rows = users(alloc, run, fd, moment, user_phase)?;
+    let rows = users(run, fd, moment, user_phase)?;
     let users = match user_phase {
-        UserPhase::Queued => with_slot(alloc, rows, run.slot(moment))?,
+        UserPhase::Queued => with_slot(run.alloc(), rows, run.slot(moment))?,
         UserPhase::Issued => rows,
     };
     let outcome = user_phase.outcome();
-    format!(in alloc;
+    format!(in run.alloc();
         "The close of thread {thread}, instruction {counter}, closed descriptor {fd}, which is {used} by {users}. {outcome} {RULE}."
     )
 }
 
 /// Returns the sentence of a close of a descriptor that was closed before.
-pub(crate) fn closed_twice(
-    alloc: Global,
-    run: &Run<'_>,
-    thread: u32,
-    moment: u32,
-) -> Result<String, AllocError> {
+pub(crate) fn closed_twice(run: &Run<'_>, thread: u32, moment: u32) -> Text {
     let fd = closed_at(run, moment);
     let counter = run.counter(moment).unwrap_or(0);
     let event = run.close_of(fd).unwrap_or(0);
-    format!(in alloc;
+    format!(in run.alloc();
         "Thread {thread} closed descriptor {fd}, instruction {counter}, which event {event} had closed: it was answered -9 (EBADF). In a real program the number may belong to another file by then (close(2))."
     )
 }

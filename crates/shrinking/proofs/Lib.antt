@@ -1,3 +1,2 @@
-pub mod Threads
 pub mod Narrowing
 pub mod Keeping

@@ -1,5 +1,6 @@
 -- A run that shows a finding shows its kind, and the other way round.
-use Rattle.std.proofs.Common.{◌≡◌, ℕ, true, List, ap, subst}
+use Rattle.std.proofs.Common.{◌≡◌, ℕ, true, List, length, ap, subst, arith}
+use Rattle.std.proofs.lemmas.List.{take_all}
 use Rattle.std.specs.Prelude.{Option, Some, None, ◌&&◌}
 use Rattle.scenario.specs.declared.event.Event.{Event}
 use Rattle.scenario.specs.declared.setup.Setup.{Setup}
@@ -7,14 +8,16 @@ use Rattle.finding_kinds.specs.declared.finding.Finding.{Finding}
 use Rattle.finding_kinds.specs.declared.kind.Kind.{Kind}
 use Rattle.finding_kinds.specs.contracts.kind.KindPartialEq.TheImpl as kinds
 use Rattle.finding_kinds.specs.contracts.kind.KindEq.TheImpl.Laws as compared
+use Rattle.machine.specs.Runs.{start, run}
+use Rattle.quiescence.specs.Over.{IsOver}
 use Rattle.findings.proofs.Same.{finding_same}
 use Rattle.symptoms.specs.declared.symptom.Sighting.{Sighting}
 use Rattle.symptoms.specs.declared.symptom.Symptom.{Symptom}
 use Rattle.symptoms.specs.declared.symptom.Symptom.TheVariants as sought
 use Rattle.symptoms.specs.declared.symptom.Wanted.{Wanted}
 use Rattle.symptoms.specs.declared.symptom.Wanted.TheVariants.{Exactly}
-use Rattle.symptoms.specs.Symptoms.{is_wanted, IsWantedAt, Shows, IsSeenAt, IsSighting}
-use Rattle.shrinking.specs.Shrinking.{narrowed}
+use Rattle.symptoms.specs.Symptoms.{is_of_end, is_wanted, IsWantedAt, Shows, IsSeenAt, IsSighting}
+use Rattle.shrinking.specs.Shrinking.{is_at_end, narrowed}
 
 first_with : Kind → Finding
 first_with k = record { moment = 0; kind = k; subject = 0 }
@@ -62,3 +65,11 @@ narrowed_sighting s es wanted x h =
       seen = seen;
       least = λ m shown. h.least m (shown_wider s s es es wanted x.finding x.moment m h.seen shown);
     }
+
+-- A run that shows a finding about the end is over at its end.
+pub shown_over : (s : Setup) (es : List Event) (wanted : Symptom) (found : Option Finding) (m : ℕ) → Shows s es (narrowed wanted found) m → is_at_end found ≡ true → IsOver (run (start s) es)
+shown_over s es wanted None m shown h = cc
+shown_over s es wanted (Some f) m shown h =
+    let w = shown.1 in
+    let at_end : is_of_end shown.0.kind ≡ true = subst (λ (k : Kind). is_of_end k ≡ true) (kind_same f.kind shown.0.kind w.kind) h in
+    subst IsOver (ap (run (start s)) (take_all (length es) es (omega arith))) (w.finding.over at_end)

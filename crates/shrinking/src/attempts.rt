@@ -1,9 +1,10 @@
 //! Trying a candidate.
-ghost use Rattle.std.specs.Prelude.{OnOk};
-ghost use Rattle.shrinking.specs.Shrinking.{CanKeep, IsKept};
+ghost use Rattle.std.specs.Prelude.{OnOk, ◌≤◌};
+ghost use Rattle.shrinking.specs.Shrinking.{IsKept};
 
 use crate::costs::Cost;
 use crate::goal::{Goal, replay};
+use crate::origins::Origins;
 use machine::{Event, Refusal, Setup, State};
 use std::alloc::{AllocError, Global};
 use symptoms::Sighting;
@@ -12,6 +13,7 @@ use symptoms::Sighting;
 #[derive(Drop)]
 pub(crate) struct Best {
     pub(crate) events: Vec<Event>,
+    pub(crate) origins: Origins,
     /// Where it shows the symptom.
     pub(crate) sighting: Sighting,
     pub(crate) attempts: u32,
@@ -29,23 +31,67 @@ fn step(state: &mut State, event: Event) -> Result<bool, AllocError> {
     }
 }
 
-// Steps some events, and returns those that are accepted.
-fn stepped(alloc: Global, state: &mut State, events: &[Event]) -> Result<Vec<Event>, AllocError> {
+// A schedule whose events are all accepted.
+#[derive(Drop)]
+struct Accepted {
+    events: Vec<Event>,
+    // Who submitted each request.
+    origins: Origins,
+}
+
+// Steps some events, and returns those that are accepted. An event names the request that has the
+// origin of the one that it named before, in a schedule with the origins `named`.
+fn stepped(
+    alloc: Global,
+    state: &mut State,
+    events: &[Event],
+    named: &Origins,
+) -> Result<Accepted, AllocError> {
     let mut kept = Vec::new(alloc);
+    let mut origins = Origins::new(alloc);
     for event in events {
-        if step(state, *event)? {
-            kept.push(*event)?;
+        if let Some(event) = origins.renumbered(*event, named) {
+            if step(state, event)? {
+                origins.note(state, event)?;
+                kept.push(event)?;
+            }
         }
     }
-    Ok(kept)
+    Ok(Accepted {
+        events: kept,
+        origins,
+    })
 }
 
 // Steps some events from the start, and returns those that are accepted.
-fn accepted(alloc: Global, setup: &Setup, events: &[Event]) -> Result<Vec<Event>, AllocError> {
+fn stepped_from_start(
+    alloc: Global,
+    setup: &Setup,
+    events: &[Event],
+    named: &Origins,
+) -> Result<Accepted, AllocError> {
     let Ok(mut state) = State::new(alloc, setup) else {
         return Err(AllocError);
     };
-    stepped(alloc, &mut state, events)
+    stepped(alloc, &mut state, events, named)
+}
+
+/// Returns who submitted each request of a run.
+pub(crate) fn origins_of(
+    alloc: Global,
+    setup: &Setup,
+    events: &[Event],
+) -> Result<Origins, AllocError> {
+    let Ok(mut state) = State::new(alloc, setup) else {
+        return Err(AllocError);
+    };
+    let mut origins = Origins::new(alloc);
+    for event in events {
+        if step(&mut state, *event)? {
+            origins.note(&state, *event)?;
+        }
+    }
+    Ok(origins)
 }
 
 /// Runs a candidate without the events that are refused. It becomes the best schedule if it is
@@ -56,17 +102,23 @@ pub(crate) fn attempt(
     best: &mut Best,
     candidate: &[Event],
 ) -> Result<(), AllocError>
-    requires can { CanKeep goal }
+    requires most { goal.most ≤ 1048576 }
     requires kept { IsKept goal best.old.events.items best.old.sighting }
     ensures { OnOk result (IsKept goal.entry best.new.events.items best.new.sighting) }
 {
     best.attempts = best.attempts.saturating_sub(1);
-    let events = accepted(alloc, goal.setup, candidate)?;
+    let Accepted { events, origins } = stepped_from_start(
+        alloc,
+        goal.program.setup(),
+        candidate,
+        &best.origins,
+    )?;
     if events.len() > best.events.len() || Cost::new(&events) >= Cost::new(&best.events) {
         return Ok(());
     }
     if let Some(sighting) = replay(alloc, goal, &events)? {
         best.events = events;
+        best.origins = origins;
         best.sighting = sighting;
     }
     Ok(())

@@ -6,6 +6,7 @@ mod attempts;
 mod candidates;
 mod costs;
 mod goal;
+mod origins;
 mod passes;
 mod shrinking;
 

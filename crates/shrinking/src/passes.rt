@@ -1,11 +1,12 @@
 //! Passes over a schedule, each of which tries simpler ones.
-ghost use Rattle.std.specs.Prelude.{OnOk, ◌<◌};
-ghost use Rattle.shrinking.specs.Shrinking.{CanKeep, IsKept};
+ghost use Rattle.std.specs.Prelude.{OnOk, ◌<◌, ◌≤◌};
+ghost use Rattle.shrinking.specs.Shrinking.{IsKept};
 
 use crate::attempts::{Best, attempt};
 use crate::candidates::{in_full, merged, without};
 use crate::costs::{Cost, is_failure};
 use crate::goal::Goal;
+use machine::Event;
 use std::alloc::{AllocError, Global};
 
 /// The greatest number of rounds of the last passes.
@@ -13,7 +14,7 @@ const ROUNDS: u32 = 8;
 
 /// Tries the events up to the finding. Those after it are needed only where the whole run matters.
 pub(crate) fn cut(alloc: Global, goal: Goal<'_>, best: &mut Best) -> Result<(), AllocError>
-    requires can { CanKeep goal }
+    requires most { goal.most ≤ 1048576 }
     requires kept { IsKept goal best.old.events.items best.old.sighting }
     ensures { OnOk result (IsKept goal.entry best.new.events.items best.new.sighting) }
 {
@@ -30,7 +31,7 @@ fn remove(
     start: usize,
     end: usize,
 ) -> Result<(), AllocError>
-    requires can { CanKeep goal }
+    requires most { goal.most ≤ 1048576 }
     requires kept { IsKept goal best.old.events.items best.old.sighting }
     ensures { OnOk result (IsKept goal.entry best.new.events.items best.new.sighting) }
 {
@@ -48,7 +49,7 @@ fn remove_each(
     best: &mut Best,
     size: usize,
 ) -> Result<(), AllocError>
-    requires can { CanKeep goal }
+    requires most { goal.most ≤ 1048576 }
     requires some { 0 < size }
     requires kept { IsKept goal best.old.events.items best.old.sighting }
     ensures { OnOk result (IsKept goal.entry best.new.events.items best.new.sighting) }
@@ -64,7 +65,7 @@ fn remove_each(
 
 /// Tries to remove half of the events at a time, then a quarter, and so on.
 pub(crate) fn halve(alloc: Global, goal: Goal<'_>, best: &mut Best) -> Result<(), AllocError>
-    requires can { CanKeep goal }
+    requires most { goal.most ≤ 1048576 }
     requires kept { IsKept goal best.old.events.items best.old.sighting }
     ensures { OnOk result (IsKept goal.entry best.new.events.items best.new.sighting) }
 {
@@ -76,75 +77,79 @@ pub(crate) fn halve(alloc: Global, goal: Goal<'_>, best: &mut Best) -> Result<()
     Ok(())
 }
 
-// Tries to let the request that finishes at an index do so in full.
-fn fill_up_at(
+/// A way to make a schedule simpler at an index.
+#[derive(Clone, Copy)]
+pub(crate) enum Edit {
+    /// Lets the request that finishes there do so in full.
+    InFull,
+    /// Moves the events by one actor from there on to its earlier ones.
+    Merged,
+}
+
+// Returns the schedule that an edit makes, or None if it makes none.
+fn edited(
+    alloc: Global,
+    events: &[Event],
+    edit: Edit,
+    index: usize,
+) -> Result<Option<Vec<Event>>, AllocError> {
+    match (edit, events.get(index)) {
+        (Edit::InFull, Some(event)) if is_failure(*event) => {
+            Ok(Some(in_full(alloc, events, index)?))
+        }
+        (Edit::InFull, _) => Ok(None),
+        (Edit::Merged, _) => merged(alloc, events, index),
+    }
+}
+
+// Tries an edit at an index.
+fn try_at(
     alloc: Global,
     goal: Goal<'_>,
     best: &mut Best,
+    edit: Edit,
     index: usize,
 ) -> Result<(), AllocError>
-    requires can { CanKeep goal }
-    requires kept { IsKept goal best.old.events.items best.old.sighting }
-    ensures { OnOk result (IsKept goal.entry best.new.events.items best.new.sighting) }
-{
-    match best.events.get(index) {
-        Some(event) if best.attempts > 0 && is_failure(*event) => {
-            let candidate = in_full(alloc, &best.events, index)?;
-            attempt(alloc, goal, best, &candidate)
-        }
-        _ => Ok(()),
-    }
-}
-
-/// Tries to let each request finish in full.
-pub(crate) fn fill_up(alloc: Global, goal: Goal<'_>, best: &mut Best) -> Result<(), AllocError>
-    requires can { CanKeep goal }
-    requires kept { IsKept goal best.old.events.items best.old.sighting }
-    ensures { OnOk result (IsKept goal.entry best.new.events.items best.new.sighting) }
-{
-    for index in 0..best.events.len() {
-        fill_up_at(alloc, goal, best, index)?;
-    }
-    Ok(())
-}
-
-// Tries to move the events by one actor from an index on to its earlier ones.
-fn merge_at(alloc: Global, goal: Goal<'_>, best: &mut Best, index: usize) -> Result<(), AllocError>
-    requires can { CanKeep goal }
+    requires most { goal.most ≤ 1048576 }
     requires kept { IsKept goal best.old.events.items best.old.sighting }
     ensures { OnOk result (IsKept goal.entry best.new.events.items best.new.sighting) }
 {
     if best.attempts == 0 {
         return Ok(());
     }
-    match merged(alloc, &best.events, index)? {
+    match edited(alloc, &best.events, edit, index)? {
         Some(candidate) => attempt(alloc, goal, best, &candidate),
         None => Ok(()),
     }
 }
 
-// Tries to make each actor act without interruption.
-fn merge(alloc: Global, goal: Goal<'_>, best: &mut Best) -> Result<(), AllocError>
-    requires can { CanKeep goal }
+/// Tries an edit at each index.
+pub(crate) fn try_each(
+    alloc: Global,
+    goal: Goal<'_>,
+    best: &mut Best,
+    edit: Edit,
+) -> Result<(), AllocError>
+    requires most { goal.most ≤ 1048576 }
     requires kept { IsKept goal best.old.events.items best.old.sighting }
     ensures { OnOk result (IsKept goal.entry best.new.events.items best.new.sighting) }
 {
     for index in 0..best.events.len() {
-        merge_at(alloc, goal, best, index)?;
+        try_at(alloc, goal, best, edit, index)?;
     }
     Ok(())
 }
 
 /// Tries to remove single events and to merge blocks until neither helps.
 pub(crate) fn settle(alloc: Global, goal: Goal<'_>, best: &mut Best) -> Result<(), AllocError>
-    requires can { CanKeep goal }
+    requires most { goal.most ≤ 1048576 }
     requires kept { IsKept goal best.old.events.items best.old.sighting }
     ensures { OnOk result (IsKept goal.entry best.new.events.items best.new.sighting) }
 {
     for _round in 0..ROUNDS {
         let before = Cost::new(&best.events);
         remove_each(alloc, goal, best, 1)?;
-        merge(alloc, goal, best)?;
+        try_each(alloc, goal, best, Edit::Merged)?;
         if Cost::new(&best.events) == before {
             return Ok(());
         }

@@ -13,7 +13,7 @@ use Rattle.runs.specs.Moments.{IsAt}
 use Rattle.finding_kinds.specs.declared.finding.Finding.{Finding}
 use Rattle.finding_kinds.specs.Orders.{order_of}
 use Rattle.findings.specs.Findings.{IsFinding, IsReportOf}
-use Rattle.symptoms.specs.Symptoms.{is_of_end, IsConclusive, conclusive, AreConclusive}
+use Rattle.symptoms.specs.Symptoms.{is_of_end, conclusive, AreConclusive}
 
 -- ---- what a filter keeps
 

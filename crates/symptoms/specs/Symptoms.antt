@@ -11,8 +11,10 @@ use Rattle.machine.specs.Runs.{moment as machine_at}
 use Rattle.quiescence.specs.Over.{IsOver}
 use Rattle.finding_kinds.specs.declared.finding.Finding.{Finding}
 use Rattle.finding_kinds.specs.declared.kind.Kind.{Kind}
-use Rattle.finding_kinds.specs.declared.kind.Kind.TheVariants.{Ended, Lasting, Left}
+use Rattle.finding_kinds.specs.declared.kind.Kind.TheVariants.{Conflict, Ended, Lasting, Left}
+use Rattle.finding_kinds.specs.declared.kind.ConflictKind.TheVariants.{FsyncEarly}
 use Rattle.finding_kinds.specs.declared.kind.EndedKind.TheVariants.{Failed, Short}
+use Rattle.finding_kinds.specs.declared.kind.Verdict.TheVariants.{Fault}
 use Rattle.finding_kinds.specs.contracts.kind.KindPartialEq.TheImpl as compared
 use Rattle.finding_kinds.specs.Kinds.{is_fault}
 use Rattle.finding_kinds.specs.Orders.{have_one_name}
@@ -46,6 +48,7 @@ is_wanted (Exactly one) kind = (compared.ghosts).eq one kind
 abbrev pub is_of_end : Kind → Bool
 is_of_end (Lasting kind) = true
 is_of_end (Left kind) = true
+is_of_end (Conflict (FsyncEarly Fault)) = true
 is_of_end kind = false
 
 -- A finding of a run is conclusive. One about the end is, if the run is over then. If it isn't, the

@@ -5,20 +5,25 @@ ghost use Rattle.runs.specs.Moments.{IsAt};
 ghost use Rattle.findings.specs.Searching.{HasSearched};
 ghost use Rattle.symptoms.specs.Symptoms.{is_of_end, conclusive, AreConclusive};
 
-use finding_kinds::{Finding, Kind};
+use finding_kinds::{ConflictKind, Finding, Kind, Verdict};
 use findings::{Found, Search};
 use machine::{Event, Setup, State};
 use quiescence::is_over;
 use std::alloc::AllocError;
 
-/// Returns whether findings of a kind are about the end of a run.
+/// Returns whether findings of a kind are about the end of a run. An FSYNC that may be early is a
+/// fault only if bytes aren't durable then.
 pub fn is_of_end(kind: Kind) -> bool
     ensures { result ≡ is_of_end kind }
 {
-    matches!(kind, Kind::Lasting(_) | Kind::Left(_))
+    matches!(
+        kind,
+        Kind::Lasting(_) | Kind::Left(_) | Kind::Conflict(ConflictKind::FsyncEarly(Verdict::Fault))
+    )
 }
 
-// Returns whether the run is over: nothing more can happen but idle events.
+// Returns whether the run is over: nothing more can happen but idle events. Fails only for a setup
+// with 2^32 threads or more; no state starts from one, since 16 are the most.
 fn ends_over(setup: &Setup, state: &State) -> Result<bool, AllocError>
     requires { length state.now.threads ≤ length setup.now.threads }
     ensures { IfOk result (λ over. SaysOver over state.now) }

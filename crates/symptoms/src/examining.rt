@@ -2,7 +2,7 @@
 ghost use Rattle.std.specs.Prelude.{◌≡◌, ◌≤◌, length, find, option_map, IfOk, OnOk, IfErr};
 ghost use Rattle.machine.specs.Runs.{start, Accepts};
 ghost use Rattle.runs.specs.Moments.{IsAt};
-ghost use Rattle.findings.specs.Searching.{Halted};
+ghost use Rattle.findings.specs.Searching.{HasSearched, Halted};
 ghost use Rattle.symptoms.specs.declared.symptom.Symptom.TheVariants.{Finding as OfFinding, Reaches};
 ghost use Rattle.symptoms.specs.Symptoms.{is_wanted, seen_by, seen_at, AreConclusive, IsFirst};
 
@@ -61,33 +61,31 @@ fn first_wanted(findings: &[Finding], wanted: &Wanted<'_>) -> Option<Finding>
         .copied()
 }
 
-// Steps the events, and returns their conclusive findings. The history that only sentences need
-// isn't kept.
-fn findings_of(
-    alloc: Global,
-    state: &mut State,
+/// Returns what a run shows, given a search that has seen all its events and the state at its end.
+#[tactic(auto, using(crate::proofs::Sighted::sighted_finding))]
+pub fn examined_by(
+    search: Search,
     setup: &Setup,
     events: &[Event],
-) -> Result<Vec<Finding>, Ended<AllocError>>
-    requires starts { state.old ≡ start setup.now }
-    requires most { length events.now ≤ 1048576 }
-    ensures runs { OnOk result (Accepts (start setup.now) events.now) }
-    ensures at { OnOk result (IsAt setup.now events.now (length events.now) state.new) }
-    ensures ok { IfOk result (λ found. AreConclusive setup.now events.now found.items) }
-    ensures err { IfErr result (Halted setup.now events.now) }
+    state: &State,
+    wanted: &Wanted<'_>,
+) -> Result<Examined, AllocError>
+    requires at { IsAt setup.now events.now (length events.now) state.now }
+    requires seen { HasSearched setup.now events.now (length events.now) search.found.items
+        search.numbers.items search.watches.items search.files.writes.items
+        search.files.suspects.items search.files.retried.items }
+    ensures sighting { IfOk result
+        (λ x. IsFirst setup.now events.now (OfFinding wanted.now) x.sighting) }
+    ensures findings { IfOk result (λ x. AreConclusive setup.now events.now x.findings.items) }
 {
-    let Ok(mut search) = Search::without_history(alloc, setup, state) else {
-        return Err(Ended::Memory);
-    };
-    drive(state, setup, events, &mut search)?;
-    match conclusive_findings(search, setup, events, state) {
-        Ok(findings) => Ok(findings),
-        Err(_) => Err(Ended::Memory),
-    }
+    let findings = conclusive_findings(search, setup, events, state)?;
+    Ok(Examined {
+        sighting: sighting_by(first_wanted(&findings, wanted)),
+        findings,
+    })
 }
 
-// Looks for the first wanted finding.
-#[tactic(auto, using(crate::proofs::Sighted::sighted_finding))]
+// Looks for the first wanted finding. The history that only sentences need isn't kept.
 fn examine_findings(
     alloc: Global,
     state: &mut State,
@@ -101,15 +99,17 @@ fn examine_findings(
     ensures at { OnOk result (IsAt setup.now events.now (length events.now) state.new) }
     ensures sighting { IfOk result
         (λ x. IsFirst setup.now events.now (OfFinding wanted.now) x.sighting) }
-    ensures findings { IfOk result
-        (λ x. AreConclusive setup.now events.now x.findings.items) }
+    ensures findings { IfOk result (λ x. AreConclusive setup.now events.now x.findings.items) }
     ensures err { IfErr result (Halted setup.now events.now) }
 {
-    let findings = findings_of(alloc, state, setup, events)?;
-    Ok(Examined {
-        sighting: sighting_by(first_wanted(&findings, wanted)),
-        findings,
-    })
+    let Ok(mut search) = Search::without_history(alloc, setup, state) else {
+        return Err(Ended::Memory);
+    };
+    drive(state, setup, events, &mut search)?;
+    match examined_by(search, setup, events, state, wanted) {
+        Ok(examined) => Ok(examined),
+        Err(_) => Err(Ended::Memory),
+    }
 }
 
 // Looks for the first moment at which the place takes the value.

@@ -7,5 +7,5 @@ mod reaching;
 mod symptom;
 
 pub use conclusive::is_of_end;
-pub use examining::{Examined, examine};
+pub use examining::{Examined, examine, examined_by};
 pub use symptom::{Sighting, Symptom, Wanted};

@@ -120,7 +120,7 @@ function row_words(row) {
 function rows_html(state) {
   const alive = rows_alive(run, state.moment), lines = alive.slice(0, 100).map((row) => [
     element('button', {type: 'button', class: 'row', 'data-row': row.row}, row.row), plain(row_words(row)),
-    `${phase_of(row, state.moment)}; waits for ${plain(waits_for(run, rows, state, row))}`,
+    `${phase_of(row, state.moment)}; waits for ${plain(waits_for(run, state, alive, row))}`,
   ]);
   const more = alive.length > 100 ? paragraph(`and ${alive.length - 100} more`, 'faint') : '';
   return heading('Rows that have not completed') + (lines.length ? table(['row', 'request', 'state'], lines) + more : paragraph('none', 'faint'));
@@ -132,7 +132,9 @@ function rows_html(state) {
 const changed_runs = (step) => (step ? step.changes : []).map(([place]) => bytes_at(place)).filter((it) => it);
 const has_byte = (runs, region, index) => runs.some((it) => it.region === region && it.first <= index && index <= it.last);
 
-const DUMP_LINE = 16, MOST_LINES = 16;
+const DUMP_LINE = 16;
+// The most lines of a file or a pipe that are shown.
+const most_lines = () => (view.raw ? 256 : 16);
 const line_of = (index) => Math.floor(index / DUMP_LINE);
 
 // Returns lines of 16 bytes in hex and as text, with the changed ones marked.
@@ -147,13 +149,13 @@ function dump(bytes, lines, is_changed) {
   }).join('\n'));
 }
 
-// Returns the numbers of the lines to show: those with changed bytes, and the first ones, at most 16 in all.
+// Returns the numbers of the lines to show: those with changed bytes, and the first ones.
 function lines_of(runs, region, size_of_region) {
   const count = Math.ceil(size_of_region / DUMP_LINE), lines = new Set();
   for (const it of runs.filter((changed) => changed.region === region)) {
-    for (let line = line_of(it.first); line <= line_of(it.last) && line < count && lines.size < MOST_LINES - 2; line += 1) lines.add(line);
+    for (let line = line_of(it.first); line <= line_of(it.last) && line < count && lines.size < most_lines() - 2; line += 1) lines.add(line);
   }
-  for (let line = 0; line < count && lines.size < MOST_LINES; line += 1) lines.add(line);
+  for (let line = 0; line < count && lines.size < most_lines(); line += 1) lines.add(line);
   return [...lines].sort((one, other) => one - other);
 }
 
@@ -177,7 +179,7 @@ function file_html(state, {name}, runs) {
 
 function pipe_html(state, {name, capacity}, runs) {
   const put_count = number_at(state, `put ${name}`), taken = number_at(state, `taken ${name}`), region = `pipe ${name}`;
-  const held = put_count - taken, bytes = new Uint8Array(Math.min(held, MOST_LINES * DUMP_LINE)), all = state.regions.get(region);
+  const held = put_count - taken, bytes = new Uint8Array(Math.min(held, most_lines() * DUMP_LINE)), all = state.regions.get(region);
   for (let k = 0; k < bytes.length; k += 1) bytes[k] = all[(taken + k) % capacity];
   const is_changed = (k) => has_byte(runs, region, (taken + k) % capacity);
   return paragraph(`${name}: ${held} of ${capacity} bytes, put ${put_count}, taken ${taken}`)
@@ -198,7 +200,7 @@ function memory_lines(state, runs) {
   const lines = new Set();
   const add = (first, count) => {
     for (let line = line_of(first); line <= line_of(first + Math.max(1, count) - 1); line += 1) {
-      if (line >= 0 && line < REGION_SIZE / DUMP_LINE && lines.size < 2 * MOST_LINES) lines.add(line);
+      if (line >= 0 && line < REGION_SIZE / DUMP_LINE && lines.size < 2 * most_lines()) lines.add(line);
     }
   };
   for (const it of runs.filter((changed) => changed.region === 'mem')) add(it.first, Math.min(256, it.last - it.first + 1));

@@ -1,3 +1,4 @@
+pub mod Common
 mod Opened
 mod Stepping
 mod Valued

@@ -1,14 +1,5 @@
 -- The values at the first moment of a range: at the start of a run, and after one event.
-use Rattle.std.proofs.Common.{◌≡◌, ℕ, ◌+◌, List, length, min, subst, arith}
-use Rattle.scenario.specs.declared.event.Event.{Event}
-use Rattle.scenario.specs.declared.setup.Setup.{Setup}
-use Rattle.machine.specs.declared.whole.Machine.{Machine}
-use Rattle.machine.specs.Whole.{view}
-use Rattle.machine.specs.Runs.{start, moment}
-use Rattle.runs.specs.Moments.{IsAt}
-use Rattle.timeline.specs.declared.values.Values.{Values}
-use Rattle.timeline.specs.Values.{AreValues}
-use Rattle.timeline.specs.Pictures.{HasOpened}
+use Rattle.timeline.proofs.Common.{◌≡◌, ℕ, ◌+◌, List, length, min, subst, arith, Event, Setup, Machine, view, start, moment, IsAt, Values, AreValues, HasOpened}
 
 -- At the start.
 pub opened_at_start : (s : Setup) (es : List Event) (m : Machine) (at : ℕ) (x : Values) → m ≡ start s → AreValues s (view m) x.values.items x.regions.items → HasOpened s es 0 at x

@@ -1,24 +1,5 @@
 -- The collected events of a range, extended by one event.
-use Rattle.std.proofs.Common.{◌≡◌, ℕ, ◌+◌, true, false, refl, sym, ap, ◌∙◌, subst, List, [], ◌∷◌, ◌++◌, map, add-one, append-nil}
-use Rattle.std.specs.Prelude.{string_bytes}
-use Rattle.std.proofs.lemmas.Simd.{map-map}
-use Rattle.places.specs.declared.value.Change.{Change}
-use Rattle.places.specs.View.{Exact, NamesOnce}
-use Rattle.scenario.specs.declared.event.Event.{Event}
-use Rattle.scenario.specs.declared.setup.Setup.{Setup}
-use Rattle.machine.specs.declared.whole.Machine.{Machine}
-use Rattle.machine.specs.Whole.{view}
-use Rattle.machine.specs.Runs.{moment}
-use Rattle.script.specs.EventTexts.{event_text}
-use Rattle.runs.specs.Moments.{IsAfter}
-use Rattle.run_log.specs.declared.changed.Changed.{Changed}
-use Rattle.run_log.specs.declared.range.EventRange.{EventRange}
-use Rattle.run_log.specs.Lines.{change_text, rows}
-use Rattle.run_log.specs.Listings.{IsListing}
-use Rattle.run_log.specs.Ranges.{has}
-use Rattle.timeline.specs.declared.parts.StepPart.{StepPart}
-use Rattle.timeline.specs.Steps.{shown_line, IsStep, StepsIf, AreSteps}
-use Rattle.timeline.specs.Values.{change_texts, change_shown}
+use Rattle.timeline.proofs.Common.{◌≡◌, ℕ, ◌+◌, true, false, refl, sym, ap, ◌∙◌, subst, List, [], ◌∷◌, ◌++◌, map, add-one, append-nil, string_bytes, map-map, Change, Exact, NamesOnce, Event, Setup, Machine, view, moment, event_text, IsAfter, Changed, EventRange, change_text, rows, IsListing, has, StepPart, shown_line, IsStep, StepsIf, AreSteps, change_texts, change_shown}
 
 -- A collected event is right if its lines show the listing of its exact undo record.
 pub is_step : (s : Setup) (es : List Event) (i : ℕ) (e : Event) (past : List Change) (m : Machine) (listed : List Changed) (texts : List (List ℕ)) (x : StepPart)

@@ -1,31 +1,9 @@
 -- Which runs `timeline` draws, and what a picture shows of them.
 use Rattle.std.specs.Prelude.{◌≡◌, ◌≤◌, ℕ, min, ◌&&◌, ◌||◌, nat_lt, nat_eq, not, is_some, List, codes, length, Bool, true, false, if◌then◌else◌, Option, Some, None}
-use Rattle.std.specs.List.{ends_with}
-use Rattle.scenario.specs.declared.event.Event.{Event}
-use Rattle.scenario.specs.declared.setup.Setup.{Setup}
-use Rattle.machine.specs.Whole.{view}
-use Rattle.machine.specs.Runs.{start, moment, Accepts, IsRefused}
-use Rattle.script.specs.Scripts.{Scenario}
-use Rattle.runs.specs.Reading.{Reads, IsUnread}
-use Rattle.runs.specs.declared.driving.Ended.{Ended}
-use Rattle.runs.specs.declared.driving.Ended.TheVariants.{Refused, Stopped}
+use Rattle.timeline.specs.Common.{ends_with, Event, Setup, view, start, moment, Accepts, IsRefused, Scenario, Reads, IsUnread, Ended, Refused, Stopped, ReportFault, Script, Trace, Schedule, Write, Memory, EventRange, IsFollowed, IsReportOf, findings_in, Drawing, Bytes, TooLong, Picture, Page, TraceEvents, Window, Seen, Values}
+use Rattle.timeline.specs.{Steps.AreSteps, Values.AreValues}
 use Rattle.runs.specs.declared.driving.Ended.TheVariants as ended
-use Rattle.runs.specs.declared.fault.ReportFault.{ReportFault}
-use Rattle.runs.specs.declared.fault.ReportFault.TheVariants.{Script, Trace, Schedule, Write, Memory}
 use Rattle.runs.specs.declared.reading.RunFault.TheVariants as unread
-use Rattle.run_log.specs.declared.range.EventRange.{EventRange}
-use Rattle.occupancy.specs.Occupancies.{IsFollowed}
-use Rattle.findings.specs.Findings.{IsReportOf}
-use Rattle.explanations.specs.ReportLists.{findings_in}
-use Rattle.timeline.specs.declared.drawing.Drawing.{Drawing}
-use Rattle.timeline.specs.declared.drawing.Drawing.TheVariants.{Bytes, TooLong}
-use Rattle.timeline.specs.declared.drawing.Picture.{Picture}
-use Rattle.timeline.specs.declared.drawing.Picture.TheVariants.{Page, TraceEvents}
-use Rattle.timeline.specs.declared.drawing.Window.{Window}
-use Rattle.timeline.specs.declared.observing.Seen.{Seen}
-use Rattle.timeline.specs.declared.values.Values.{Values}
-use Rattle.timeline.specs.Steps.{AreSteps}
-use Rattle.timeline.specs.Values.{AreValues}
 
 -- The format of a picture, by the name of its file.
 abbrev pub picture_of : List ℕ → Option Picture

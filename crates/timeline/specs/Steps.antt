@@ -1,20 +1,7 @@
 -- How a picture shows the events of a part of a run, with the changes of each.
 use Rattle.std.specs.Prelude.{◌≡◌, ℕ, zero, suc, ◌+◌, ◌++◌, nat_le, List, [], ◌∷◌, codes, length, map, take, slice_get, string_bytes, Bool, true, false, if◌then◌else◌, Some}
-use Rattle.std.specs.Str.Lossy.{utf8_lossy}
-use Rattle.places.specs.declared.value.Change.{Change}
-use Rattle.places.specs.View.{Exact, NamesOnce}
-use Rattle.scenario.specs.declared.event.Event.{Event}
-use Rattle.scenario.specs.declared.setup.Setup.{Setup}
-use Rattle.machine.specs.Whole.{view}
-use Rattle.machine.specs.Runs.{moment}
-use Rattle.script.specs.EventTexts.{event_text}
-use Rattle.run_log.specs.declared.changed.Changed.{Changed}
-use Rattle.run_log.specs.declared.range.EventRange.{EventRange}
-use Rattle.run_log.specs.Lines.{change_text, rows}
-use Rattle.run_log.specs.Listings.{IsListing}
-use Rattle.run_log.specs.Ranges.{has}
-use Rattle.timeline.specs.declared.parts.StepPart.{StepPart}
-use Rattle.timeline.specs.Values.{change_texts, change_shown}
+use Rattle.timeline.specs.Common.{utf8_lossy, Change, Exact, NamesOnce, Event, Setup, view, moment, event_text, Changed, EventRange, change_text, rows, IsListing, has, StepPart}
+use Rattle.timeline.specs.Values.{change_shown, change_texts}
 
 -- A line of trace events. Invalid UTF-8 is replaced by U+FFFD, and all after the first 400 bytes by
 -- two dots.

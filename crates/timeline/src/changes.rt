@@ -5,7 +5,7 @@ ghost use Rattle.std.specs.Str.Lossy.{utf8_lossy};
 ghost use Rattle.base64.specs.GeneralPurpose.{encode_of};
 ghost use Rattle.base64.specs.Engines.{standard};
 ghost use Rattle.run_log.specs.Lines.{row_place, rows, value_shown};
-ghost use Rattle.timeline.specs.Values.{is_byte, byte_of, olds_shown, news_shown, change_texts, change_shown};
+ghost use Rattle.timeline.specs.Values.{is_byte, byte_of, value_on, values_shown, change_texts, change_shown};
 
 use crate::parts::ChangePart;
 use base64::engine::general_purpose::STANDARD;
@@ -13,6 +13,25 @@ use machine::Setup;
 use places::{Place, Value};
 use run_log::{Changed, first_row, row_place, value_shown};
 use std::alloc::{AllocError, Global};
+
+/// One of the two values of a change.
+#[derive(Clone, Copy)]
+pub(crate) enum Side {
+    Old,
+    New,
+}
+
+impl Side {
+    // Returns the value of a change on this side.
+    fn value(self, changed: Changed) -> Option<Value>
+        ensures { result ≡ value_on self changed }
+    {
+        match self {
+            Side::Old => changed.old,
+            Side::New => changed.new,
+        }
+    }
+}
 
 // Returns whether a place is a byte.
 fn is_byte(place: Place) -> bool
@@ -37,24 +56,13 @@ pub(crate) fn add_byte(out: &mut Vec<u8>, value: Option<Value>) -> Result<(), Al
     Ok(())
 }
 
-// Returns the old bytes of a line.
-fn old_bytes(alloc: Global, row: &[Changed]) -> Result<Vec<u8>, AllocError>
-    ensures { IfOk result (λ bytes. bytes.items ≡ flat_map (λ d. byte_of d.old) row.now) }
+// Returns the bytes of a line on one side.
+fn bytes_on(alloc: Global, side: Side, row: &[Changed]) -> Result<Vec<u8>, AllocError>
+    ensures { IfOk result (λ bytes. bytes.items ≡ flat_map (λ d. byte_of (value_on side d)) row.now) }
 {
     let mut bytes = Vec::new(alloc);
     for changed in row {
-        add_byte(&mut bytes, changed.old)?;
-    }
-    Ok(bytes)
-}
-
-// Returns the new bytes of a line.
-fn new_bytes(alloc: Global, row: &[Changed]) -> Result<Vec<u8>, AllocError>
-    ensures { IfOk result (λ bytes. bytes.items ≡ flat_map (λ d. byte_of d.new) row.now) }
-{
-    let mut bytes = Vec::new(alloc);
-    for changed in row {
-        add_byte(&mut bytes, changed.new)?;
+        add_byte(&mut bytes, side.value(*changed))?;
     }
     Ok(bytes)
 }
@@ -67,28 +75,16 @@ pub(crate) fn value_string(alloc: Global, value: Option<Value>) -> Result<String
     String::from_utf8_lossy(alloc, text.as_slice())
 }
 
-// Returns the old values of a line.
-fn olds_of(alloc: Global, row: &[Changed]) -> Result<String, AllocError>
+// Returns the values of a line on one side: bytes in base64, any other value as the log prints it.
+fn values_on(alloc: Global, side: Side, row: &[Changed]) -> Result<String, AllocError>
     requires { 0 < length row.now }
-    ensures { IfOk result (λ text. string_bytes text ≡ olds_shown row.now) }
+    ensures { IfOk result (λ text. string_bytes text ≡ values_shown side row.now) }
 {
     if is_byte(row[0].place) {
-        let bytes = old_bytes(alloc, row)?;
+        let bytes = bytes_on(alloc, side, row)?;
         return STANDARD.encode(alloc, bytes.as_slice());
     }
-    value_string(alloc, row[0].old)
-}
-
-// Returns the new values of a line.
-fn news_of(alloc: Global, row: &[Changed]) -> Result<String, AllocError>
-    requires { 0 < length row.now }
-    ensures { IfOk result (λ text. string_bytes text ≡ news_shown row.now) }
-{
-    if is_byte(row[0].place) {
-        let bytes = new_bytes(alloc, row)?;
-        return STANDARD.encode(alloc, bytes.as_slice());
-    }
-    value_string(alloc, row[0].new)
+    value_string(alloc, side.value(row[0]))
 }
 
 // Returns the place of a line.
@@ -106,8 +102,8 @@ fn change_part(alloc: Global, setup: &Setup, row: &[Changed]) -> Result<ChangePa
     ensures { IfOk result (λ part. change_texts part ≡ change_shown setup.now row.now) }
 {
     let place = place_of(alloc, setup, row)?;
-    let old = olds_of(alloc, row)?;
-    let new = news_of(alloc, row)?;
+    let old = values_on(alloc, Side::Old, row)?;
+    let new = values_on(alloc, Side::New, row)?;
     Ok(ChangePart(place, old, new))
 }
 

@@ -1,8 +1,6 @@
 //! Draws the run of a script or a trace.
 ghost use Rattle.std.specs.Prelude.{◌≡◌, ◌≤◌, None, length, nat_eq, IfOk, IfErr};
-ghost use Rattle.std.specs.List.{ends_with};
-ghost use Rattle.scenario.specs.Setups.{setup_refusal};
-ghost use Rattle.timeline.specs.Pictures.{is_long, picture_of, Draws, DrawsRun, Stops, IsUndrawn};
+ghost use Rattle.timeline.specs.{Common.ends_with, Common.setup_refusal, Pictures.Draws, Pictures.DrawsRun, Pictures.IsUndrawn, Pictures.Stops, Pictures.is_long, Pictures.picture_of};
 
 use crate::drawn::Drawn;
 use crate::observing::observe;

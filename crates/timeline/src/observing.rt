@@ -1,14 +1,6 @@
 //! Steps a run once, and collects all that a picture shows of it.
 ghost use Rattle.std.specs.Prelude.{◌≡◌, ◌≤◌, None, List, [], length, IfOk, IfErr};
-ghost use Rattle.scenario.specs.declared.event.Event.{Event};
-ghost use Rattle.scenario.specs.Setups.{setup_refusal};
-ghost use Rattle.machine.specs.Runs.{start, Accepts};
-ghost use Rattle.runs.specs.Moments.{IsAt};
-ghost use Rattle.occupancy.specs.Occupancies.{HasFollowed};
-ghost use Rattle.findings.specs.Searching.{HasSearched};
-ghost use Rattle.explanations.specs.ReportLists.{findings_in};
-ghost use Rattle.timeline.specs.Pictures.{IsSeen, HasOpened, fault_of, Stops};
-ghost use Rattle.timeline.specs.Steps.{AreSteps};
+ghost use Rattle.timeline.specs.{Common.Accepts, Common.Event, Common.HasFollowed, Common.HasSearched, Common.IsAt, Common.findings_in, Common.setup_refusal, Common.start, Pictures.HasOpened, Pictures.IsSeen, Pictures.Stops, Pictures.fault_of, Steps.AreSteps};
 
 use crate::opening::Opening;
 use crate::parts::StepPart;

@@ -1,6 +1,7 @@
 //! An observer that reads the values of all places at one moment of a run.
-ghost use Rattle.std.specs.Prelude.{◌≡◌, ℕ, List, IfOk};
+ghost use Rattle.std.specs.Prelude.{◌≡◌, ℕ, None, List, IfOk};
 ghost use Rattle.scenario.specs.declared.event.Event.{Event};
+ghost use Rattle.scenario.specs.Setups.{setup_refusal};
 ghost use Rattle.machine.specs.Runs.{start};
 ghost use Rattle.timeline.specs.Pictures.{HasOpened};
 
@@ -32,6 +33,7 @@ impl<K: Ranged> Opening<K> {
         state: &State,
         range: EventRange,
     ) -> Result<Opening<K>, AllocError>
+        requires setup { setup_refusal setup.now ≡ None }
         requires starts { state.now ≡ start setup.now }
         requires range { range ≡ K.range }
         ensures range { IfOk result (λ o. o.range ≡ K.range) }
@@ -52,7 +54,8 @@ impl<K: Ranged> Observer for Opening<K> {
 
     type Stop = AllocError;
 
-    ghost has_seen = { λ o s es i. (o.range ≡ K.range) × HasOpened s es i K.range.from o.values };
+    ghost has_seen = { λ o s es i. (o.range ≡ K.range) × (setup_refusal s ≡ None)
+        × HasOpened s es i K.range.from o.values };
 
     ghost notes = { λ s es i n. Unit {0} };
 

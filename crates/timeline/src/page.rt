@@ -13,15 +13,17 @@ mod panel;
 mod picture;
 mod setting;
 mod style;
+mod waiting;
 
 /// The page before the data.
 pub(crate) const BEFORE: [&str; 3] = [head::TEXT, style::TEXT, body::TEXT];
 
 /// The page after the data.
-pub(crate) const AFTER: [&str; 9] = [
+pub(crate) const AFTER: [&str; 10] = [
     foot::TEXT,
     setting::TEXT,
     model::TEXT,
+    waiting::TEXT,
     lanes::TEXT,
     picture::TEXT,
     panel::TEXT,

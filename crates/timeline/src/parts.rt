@@ -56,6 +56,8 @@ pub struct RowPart {
     pub user: String,
     /// The first row of its chain.
     pub unit: u32,
+    /// Whether a row of its chain has IOSQE_IO_DRAIN.
+    pub drains: bool,
     /// If it is a linked timeout, the row that it limits.
     pub target: Option<u32>,
     /// When a timeout is due, in nanoseconds.

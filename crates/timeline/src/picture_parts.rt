@@ -5,7 +5,7 @@ use crate::marks::{finding_parts, kinds_at};
 use crate::parts::{
     FillingPart, FindingPart, ObjectPart, PagePart, RowPart, StepPart, filling_part,
 };
-use crate::row_parts::{program_part, row_part};
+use crate::row_parts::{drains, program_part, row_part};
 use crate::trace_events::{
     Slice, add_filling, add_finding, add_link, add_row, add_slice, begin, end,
 };
@@ -50,7 +50,8 @@ fn row_parts(
 ) -> Result<Vec<RowPart>, AllocError> {
     let mut parts = Vec::new(alloc);
     for (number, (row, stamps)) in rows.iter().zip(occupancy.stamps.iter()).enumerate() {
-        let part = row_part(alloc, number.min(65535) as u32, row, *stamps)?;
+        let number = number.min(65535) as u32;
+        let part = row_part(alloc, number, row, drains(rows, row.unit), *stamps)?;
         if is_within(&part, from, to) {
             parts.push(part)?;
         }
@@ -186,7 +187,6 @@ fn linked_before(parts: &[RowPart], index: usize) -> Option<usize> {
 
 // Adds the flow from a row to the one that is linked to it.
 fn add_link_to(
-    alloc: Global,
     out: &mut Vec<u8>,
     before: &RowPart,
     part: &RowPart,
@@ -196,14 +196,13 @@ fn add_link_to(
     let ended = slice_before(tracks, from, before.ended);
     let went_on = slice_before(tracks, from, part.issued.or(part.ended));
     match (ended, went_on) {
-        (Some(ended), Some(went_on)) => add_link(alloc, out, before.row, ended, went_on),
+        (Some(ended), Some(went_on)) => add_link(out, before.row, ended, went_on),
         _ => Ok(()),
     }
 }
 
 // Adds the flows between linked rows.
 fn add_links(
-    alloc: Global,
     out: &mut Vec<u8>,
     parts: &[RowPart],
     tracks: &[u32],
@@ -212,7 +211,7 @@ fn add_links(
     for (index, part) in parts.iter().enumerate() {
         if let Some(before) = linked_before(parts, index) {
             if let Some(other) = parts.get(before) {
-                add_link_to(alloc, out, other, part, tracks, from)?;
+                add_link_to(out, other, part, tracks, from)?;
             }
         }
     }
@@ -221,26 +220,23 @@ fn add_links(
 
 // Returns the clock at a moment of a range, in nanoseconds.
 fn clock_at(fillings: &[Filling], index: usize) -> u64 {
-    match fillings.get(index) {
-        Some(filling) => filling.clock,
-        None => 0,
-    }
+    fillings.get(index).map_or(0, |filling| filling.clock)
 }
 
 // Adds the events of a run as slices, and returns their tracks.
 fn add_slices(
-    alloc: Global,
     out: &mut Vec<u8>,
     steps: &[StepPart],
     fillings: &[Filling],
     findings: &[FindingPart],
     from: u32,
 ) -> Result<Vec<u32>, AllocError> {
+    let alloc = *out.allocator();
     let mut tracks = Vec::new(alloc);
     let mut moment = from;
     for (index, step) in steps.iter().enumerate() {
         let found = kinds_at(alloc, findings, moment)?;
-        let track = add_slice(alloc, out, moment, step, &found, clock_at(fillings, index))?;
+        let track = add_slice(out, moment, step, &found, clock_at(fillings, index))?;
         tracks.push(track)?;
         moment = moment.saturating_add(1);
     }
@@ -248,37 +244,27 @@ fn add_slices(
 }
 
 // Adds the occupancy at the moments of a range, as counters.
-fn add_fillings(
-    alloc: Global,
-    out: &mut Vec<u8>,
-    fillings: &[Filling],
-    from: u32,
-) -> Result<(), AllocError> {
+fn add_fillings(out: &mut Vec<u8>, fillings: &[Filling], from: u32) -> Result<(), AllocError> {
     let mut moment = from;
     for filling in fillings {
-        add_filling(alloc, out, moment, *filling)?;
+        add_filling(out, moment, *filling)?;
         moment = moment.saturating_add(1);
     }
     Ok(())
 }
 
 // Adds the findings.
-fn add_findings(alloc: Global, out: &mut Vec<u8>, parts: &[FindingPart]) -> Result<(), AllocError> {
+fn add_findings(out: &mut Vec<u8>, parts: &[FindingPart]) -> Result<(), AllocError> {
     for part in parts {
-        add_finding(alloc, out, part)?;
+        add_finding(out, part)?;
     }
     Ok(())
 }
 
 // Adds the rows, without what is after a moment.
-fn add_rows(
-    alloc: Global,
-    out: &mut Vec<u8>,
-    parts: &[RowPart],
-    last: u32,
-) -> Result<(), AllocError> {
+fn add_rows(out: &mut Vec<u8>, parts: &[RowPart], last: u32) -> Result<(), AllocError> {
     for part in parts {
-        add_row(alloc, out, part, last)?;
+        add_row(out, part, last)?;
     }
     Ok(())
 }
@@ -296,19 +282,12 @@ pub(crate) fn trace_file(alloc: Global, drawn: Drawn<'_>) -> Result<Vec<u8>, All
     let mut out = Vec::new(alloc);
     let has_poller = followed.thread_stages.awake.is_some();
     let threads = drawn.setup.threads.len();
-    begin(alloc, &mut out, drawn.name, threads, has_poller)?;
-    let tracks = add_slices(
-        alloc,
-        &mut out,
-        &drawn.seen.steps,
-        fillings,
-        &findings,
-        from,
-    )?;
-    add_fillings(alloc, &mut out, fillings, from)?;
-    add_rows(alloc, &mut out, &parts, to)?;
-    add_links(alloc, &mut out, &parts, &tracks, from)?;
-    add_findings(alloc, &mut out, &findings)?;
+    begin(&mut out, drawn.name, threads, has_poller)?;
+    let tracks = add_slices(&mut out, &drawn.seen.steps, fillings, &findings, from)?;
+    add_fillings(&mut out, fillings, from)?;
+    add_rows(&mut out, &parts, to)?;
+    add_links(&mut out, &parts, &tracks, from)?;
+    add_findings(&mut out, &findings)?;
     end(&mut out)?;
     Ok(out)
 }

@@ -1,7 +1,7 @@
 //! Builds the rows and the programs in the data of a page.
 
 use crate::parts::RowPart;
-use entries::{Phase, Row, Sqe};
+use entries::{IOSQE_IO_DRAIN, Phase, Row, Sqe};
 use machine::Instruction;
 use occupancy::Stamps;
 use sentences::{Counted, opcode_name};
@@ -31,11 +31,29 @@ fn deadline_text(alloc: Global, deadline: Option<u128>) -> Result<Option<String>
     }
 }
 
-/// Returns a row with its number and its moments.
+/// Returns whether a chain drains, by the rows of a run: whether a row of it has IOSQE_IO_DRAIN, even
+/// one that has completed.
+pub(crate) fn drains(rows: &[Row], unit: u32) -> bool {
+    let Some(rest) = rows.get(unit as usize..) else {
+        return false;
+    };
+    for row in rest {
+        if row.unit != unit {
+            return false;
+        }
+        if row.entry.flags & IOSQE_IO_DRAIN != 0 {
+            return true;
+        }
+    }
+    false
+}
+
+/// Returns a row with its number and its moments, given whether its chain drains.
 pub(crate) fn row_part(
     alloc: Global,
     number: u32,
     row: &Row,
+    drains: bool,
     stamps: Stamps,
 ) -> Result<RowPart, AllocError> {
     Ok(RowPart {
@@ -50,6 +68,7 @@ pub(crate) fn row_part(
         opflags: row.entry.operation_flags,
         user: text(alloc, row.entry.user_data)?,
         unit: row.unit,
+        drains,
         target: row.target,
         deadline: deadline_text(alloc, row.deadline)?,
         base: row.base,

@@ -1,8 +1,6 @@
 //! Collects the events of a part of a run, with the changes of each, while the run is stepped.
-ghost use Rattle.std.specs.Prelude.{◌≡◌, ℕ, None, [], map, string_bytes, IfOk};
-ghost use Rattle.run_log.specs.declared.range.EventRange.{EventRange};
-ghost use Rattle.runs.specs.Moments.{IsAfter};
-ghost use Rattle.timeline.specs.Steps.{shown_line, IsStep, AreSteps};
+ghost use Rattle.std.specs.Prelude.{◌≡◌, None, [], map, string_bytes, IfOk};
+ghost use Rattle.timeline.specs.{Common.EventRange, Common.IsAfter, Steps.AreSteps, Steps.IsStep, Steps.shown_line};
 
 use crate::changes::change_parts;
 use crate::deeds::deed_of;

@@ -43,28 +43,22 @@ fn add(out: &mut Vec<u8>, members: &str) -> Added {
 }
 
 // Adds the name of a track.
-fn add_track(alloc: Global, out: &mut Vec<u8>, track: u32, name: &str) -> Added {
-    let members = format!(in alloc;
+fn add_track(out: &mut Vec<u8>, track: u32, name: &str) -> Added {
+    let members = format!(in *out.allocator();
         "\"ph\":\"M\",\"name\":\"thread_name\",\"tid\":{track},\"args\":{{\"name\":\"{name}\"}}"
     )?;
     add(out, members.as_str())
 }
 
-fn add_thread(alloc: Global, out: &mut Vec<u8>, thread: u32) -> Added {
-    let name = format!(in alloc; "thread {thread}")?;
-    add_track(alloc, out, thread.saturating_add(1), name.as_str())
+fn add_thread(out: &mut Vec<u8>, thread: u32) -> Added {
+    let name = format!(in *out.allocator(); "thread {thread}")?;
+    add_track(out, thread.saturating_add(1), name.as_str())
 }
 
 /// Begins a file with the names of the run and of its tracks: those of its threads, and of the
 /// poller if it has one.
-pub(crate) fn begin(
-    alloc: Global,
-    out: &mut Vec<u8>,
-    run: &str,
-    threads: usize,
-    has_poller: bool,
-) -> Added {
-    let run = json(alloc, &run)?;
+pub(crate) fn begin(out: &mut Vec<u8>, run: &str, threads: usize, has_poller: bool) -> Added {
+    let run = json(*out.allocator(), &run)?;
     out.extend_from_slice(b"{\"displayTimeUnit\":\"ns\",\"traceEvents\":[\n")?;
     out.extend_from_slice(
         b"{\"pid\":1,\"ph\":\"M\",\"name\":\"process_name\",\"args\":{\"name\":",
@@ -72,14 +66,14 @@ pub(crate) fn begin(
     out.extend_from_slice(run.as_bytes())?;
     out.extend_from_slice(b"}}")?;
     for thread in 0..threads.min(16) as u32 {
-        add_thread(alloc, out, thread)?;
+        add_thread(out, thread)?;
     }
     if has_poller {
-        add_track(alloc, out, POLLER, "poller")?;
+        add_track(out, POLLER, "poller")?;
     }
-    add_track(alloc, out, KERNEL, "kernel")?;
-    add_track(alloc, out, CLOCK, "clock")?;
-    add_track(alloc, out, FINDINGS, "findings")
+    add_track(out, KERNEL, "kernel")?;
+    add_track(out, CLOCK, "clock")?;
+    add_track(out, FINDINGS, "findings")
 }
 
 /// Ends a file.
@@ -124,13 +118,13 @@ struct SliceArguments<'a> {
 /// Adds an event of the run as a slice from its moment to the next, named by what it does, and
 /// returns its track.
 pub(crate) fn add_slice(
-    alloc: Global,
     out: &mut Vec<u8>,
     index: u32,
     step: &StepPart,
     found: &[&'static str],
     clock: u64,
 ) -> Result<u32, AllocError> {
+    let alloc = *out.allocator();
     let track = track_of(step.event.as_str());
     let name = json(alloc, &step.does)?;
     let arguments = SliceArguments {
@@ -151,7 +145,8 @@ pub(crate) fn add_slice(
 }
 
 /// Adds a finding, as an instant at its moment.
-pub(crate) fn add_finding(alloc: Global, out: &mut Vec<u8>, part: &FindingPart) -> Added {
+pub(crate) fn add_finding(out: &mut Vec<u8>, part: &FindingPart) -> Added {
+    let alloc = *out.allocator();
     let FindingPart {
         moment,
         kind,
@@ -166,28 +161,22 @@ pub(crate) fn add_finding(alloc: Global, out: &mut Vec<u8>, part: &FindingPart) 
 }
 
 // Adds the length of a queue at a moment, as a counter.
-fn add_counter(alloc: Global, out: &mut Vec<u8>, name: &str, moment: u32, waiting: u32) -> Added {
-    let members = format!(in alloc;
+fn add_counter(out: &mut Vec<u8>, name: &str, moment: u32, waiting: u32) -> Added {
+    let members = format!(in *out.allocator();
         "\"ph\":\"C\",\"name\":\"{name}\",\"ts\":{moment},\"args\":{{\"waiting\":{waiting}}}"
     )?;
     add(out, members.as_str())
 }
 
 /// Adds the occupancy of the rings and the backlog at a moment.
-pub(crate) fn add_filling(
-    alloc: Global,
-    out: &mut Vec<u8>,
-    moment: u32,
-    filling: Filling,
-) -> Added {
-    add_counter(alloc, out, "submission ring", moment, filling.submissions)?;
-    add_counter(alloc, out, "completion ring", moment, filling.completions)?;
-    add_counter(alloc, out, "backlog", moment, filling.kept)
+pub(crate) fn add_filling(out: &mut Vec<u8>, moment: u32, filling: Filling) -> Added {
+    add_counter(out, "submission ring", moment, filling.submissions)?;
+    add_counter(out, "completion ring", moment, filling.completions)?;
+    add_counter(out, "backlog", moment, filling.kept)
 }
 
 // Adds the beginning or the end of an asynchronous slice of a row, with its arguments.
 fn add_end(
-    alloc: Global,
     out: &mut Vec<u8>,
     kind: &str,
     name: &str,
@@ -195,24 +184,17 @@ fn add_end(
     moment: u32,
     arguments: &str,
 ) -> Added {
-    let members = format!(in alloc;
+    let members = format!(in *out.allocator();
         "\"ph\":\"{kind}\",\"cat\":\"row\",\"id\":{row},\"tid\":18,\"ts\":{moment},\"name\":\"{name}\",\"args\":{{{arguments}}}"
     )?;
     add(out, members.as_str())
 }
 
 // Adds a phase of a row as a slice, which ends at `to` if that is given.
-fn add_phase(
-    alloc: Global,
-    out: &mut Vec<u8>,
-    phase: &str,
-    row: u32,
-    from: u32,
-    to: Option<u32>,
-) -> Added {
-    add_end(alloc, out, "b", phase, row, from, "")?;
+fn add_phase(out: &mut Vec<u8>, phase: &str, row: u32, from: u32, to: Option<u32>) -> Added {
+    add_end(out, "b", phase, row, from, "")?;
     match to {
-        Some(to) => add_end(alloc, out, "e", phase, row, to, ""),
+        Some(to) => add_end(out, "e", phase, row, to, ""),
         None => Ok(()),
     }
 }
@@ -240,15 +222,16 @@ fn up_to(last: u32, moment: Option<u32>) -> Option<u32> {
 }
 
 // Adds the end of a row's slice, with its result.
-fn add_row_end(alloc: Global, out: &mut Vec<u8>, part: &RowPart, name: &str, moment: u32) -> Added {
+fn add_row_end(out: &mut Vec<u8>, part: &RowPart, name: &str, moment: u32) -> Added {
     let result = part.result.unwrap_or(0);
-    let arguments = format!(in alloc; "\"result\":{result}")?;
-    add_end(alloc, out, "e", name, part.row, moment, arguments.as_str())
+    let arguments = format!(in *out.allocator(); "\"result\":{result}")?;
+    add_end(out, "e", name, part.row, moment, arguments.as_str())
 }
 
 /// Adds a row as an asynchronous slice, with a slice inside it for each of its phases, queued and
 /// issued. Leaves out what is after the last moment.
-pub(crate) fn add_row(alloc: Global, out: &mut Vec<u8>, part: &RowPart, last: u32) -> Added {
+pub(crate) fn add_row(out: &mut Vec<u8>, part: &RowPart, last: u32) -> Added {
+    let alloc = *out.allocator();
     let row = part.row;
     let operation = part.name;
     let name = format!(in alloc; "row {row} {operation}")?;
@@ -256,7 +239,6 @@ pub(crate) fn add_row(alloc: Global, out: &mut Vec<u8>, part: &RowPart, last: u3
     let issued = up_to(last, part.issued);
     let ended = up_to(last, part.ended);
     add_end(
-        alloc,
         out,
         "b",
         name.as_str(),
@@ -264,24 +246,19 @@ pub(crate) fn add_row(alloc: Global, out: &mut Vec<u8>, part: &RowPart, last: u3
         part.queued,
         arguments.as_str(),
     )?;
-    add_phase(alloc, out, "queued", row, part.queued, issued.or(ended))?;
+    add_phase(out, "queued", row, part.queued, issued.or(ended))?;
     if let Some(issued) = issued {
-        add_phase(alloc, out, "issued", row, issued, ended)?;
+        add_phase(out, "issued", row, issued, ended)?;
     }
     match ended {
-        Some(ended) => add_row_end(alloc, out, part, name.as_str(), ended),
+        Some(ended) => add_row_end(out, part, name.as_str(), ended),
         None => Ok(()),
     }
 }
 
 /// Adds a flow from the event that completed a row to the next event of the row linked to it.
-pub(crate) fn add_link(
-    alloc: Global,
-    out: &mut Vec<u8>,
-    row: u32,
-    ended: Slice,
-    went_on: Slice,
-) -> Added {
+pub(crate) fn add_link(out: &mut Vec<u8>, row: u32, ended: Slice, went_on: Slice) -> Added {
+    let alloc = *out.allocator();
     let Slice { track, moment } = ended;
     let from = format!(in alloc;
         "\"ph\":\"s\",\"cat\":\"link\",\"name\":\"link\",\"id\":{row},\"tid\":{track},\"ts\":{moment}"

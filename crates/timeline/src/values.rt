@@ -1,12 +1,10 @@
 //! The values of all places at the first moment of a page.
-ghost use Rattle.std.specs.Prelude.{◌≡◌, ◌++◌, ◌∷◌, ◌+◌, ℕ, [], length, map, replicate, string_bytes, IfOk, OnOk, IfSome};
-ghost use Rattle.std.specs.List.{All};
+ghost use Rattle.std.specs.Prelude.{◌≡◌, ◌++◌, ◌∷◌, ◌+◌, ◌≤◌, ℕ, None, List, [], length, map, replicate, string_bytes, IfOk, OnOk, IfSome};
 ghost use Rattle.std.specs.Str.Lossy.{utf8_lossy};
-ghost use Rattle.base64.specs.GeneralPurpose.{encode_of};
-ghost use Rattle.base64.specs.Engines.{standard};
 ghost use Rattle.scenario.specs.PlaceTexts.{place_text};
+ghost use Rattle.scenario.specs.Setups.{setup_refusal};
 ghost use Rattle.machine.specs.Whole.{view};
-ghost use Rattle.timeline.specs.Values.{value_texts, value_listed, fixed_places_at, added_places_at, values_of, values_below, all_values, bytes_below, IsRegionPart, AreValues};
+ghost use Rattle.timeline.specs.Values.{value_texts, value_listed, places_at, values_of, values_below, all_values, bytes_below, object_regions, setup_regions, IsRegionShown, AreRegions, AreValues};
 
 use crate::changes::{add_byte, value_string};
 use crate::parts::ValuePart;
@@ -14,27 +12,10 @@ use base64::engine::general_purpose::STANDARD;
 use machine::{Setup, State};
 use places::{Contents, Place, Region, Value};
 use scenario::put_place;
+use state_places::{
+    PARTS, REQUESTS, SLOTS, lone_places, places_of_part, places_of_request, places_of_slot,
+};
 use std::alloc::{AllocError, Global};
-
-/// One more than the largest index of a byte, of a request or of an overflowed completion.
-const INDEXES: u32 = 65536;
-
-/// One more than the largest index of any other place: that of a completion ring's last slot.
-const FIXED_INDEXES: u32 = 8192;
-
-/// The places of a state that have no index, and are no bytes.
-const LONE: [Place; 10] = [
-    Place::SubmissionHead,
-    Place::SubmissionTail,
-    Place::SubmissionFlags,
-    Place::SubmissionDropped,
-    Place::CompletionHead,
-    Place::CompletionTail,
-    Place::BacklogFront,
-    Place::Clock,
-    Place::Counted,
-    Place::PollerStage,
-];
 
 /// The values of all places at a moment.
 #[derive(Drop)]
@@ -92,81 +73,42 @@ fn add_values(
     Ok(())
 }
 
-// Returns the places that a setup has with this index, other than bytes.
-fn fixed_places_at(index: u32) -> [Place; 14]
-    ensures { result ≡ fixed_places_at index }
-{
-    [
-        Place::Array(index),
-        Place::Slot(index),
-        Place::Completion(index),
-        Place::FileLength(index),
-        Place::DurableLength(index),
-        Place::Position(index),
-        Place::OpenMark(index),
-        Place::PutCount(index),
-        Place::TakenCount(index),
-        Place::EventCount(index),
-        Place::ProgramCounter(index),
-        Place::ThreadStage(index),
-        Place::Last(index),
-        Place::Got(index),
-    ]
-}
-
-// Adds the values of the places of a setup that have an index and are no bytes.
-#[tactic(auto, using(crate::proofs::Valued::values_more))]
-fn add_fixed_values(
+// Adds the values of the places with a number that are no bytes.
+fn add_values_at(
     alloc: Global,
     out: &mut Vec<ValuePart>,
     setup: &Setup,
     state: &State,
-    count: u32,
+    number: u32,
 ) -> Result<(), AllocError>
     ensures { OnOk result (map value_texts out.new.items ≡ map value_texts out.old.items
-        ++ values_below setup.entry.now (view state.entry.now) fixed_places_at count) }
+        ++ values_of setup.now (view state.now) (places_at number)) }
 {
-    for index in 0..count {
-        add_values(alloc, out, setup, state, &fixed_places_at(index))?;
+    add_values(alloc, out, setup, state, &places_of_request(number))?;
+    if number < SLOTS {
+        add_values(alloc, out, setup, state, &places_of_slot(number))?;
+    }
+    if number < PARTS {
+        add_values(alloc, out, setup, state, &places_of_part(number))?;
     }
     Ok(())
 }
 
-// Adds the values of the requests and of the overflowed completions.
-#[tactic(auto, using(crate::proofs::Valued::values_more))]
-fn add_added_values(
-    alloc: Global,
-    out: &mut Vec<ValuePart>,
-    setup: &Setup,
-    state: &State,
-    count: u32,
-) -> Result<(), AllocError>
-    ensures { OnOk result (map value_texts out.new.items ≡ map value_texts out.old.items
-        ++ values_below setup.entry.now (view state.entry.now) added_places_at count) }
-{
-    for index in 0..count {
-        let places = [Place::Request(index), Place::Backlog(index)];
-        add_values(alloc, out, setup, state, &places)?;
-    }
-    Ok(())
-}
-
-// Returns the values of all places that are no bytes, of a setup's places with an index below
-// `fixed`, and of a run's with one below `added`.
+// Returns the values of all places that are no bytes, of those with a number below `count`.
 fn values_of(
     alloc: Global,
     setup: &Setup,
     state: &State,
-    fixed: u32,
-    added: u32,
+    count: u32,
 ) -> Result<Vec<ValuePart>, AllocError>
     ensures { IfOk result (λ values. map value_texts values.items
-        ≡ all_values setup.now (view state.now) fixed added) }
+        ≡ all_values setup.now (view state.now) count) }
 {
     let mut out = Vec::new(alloc);
-    add_values(alloc, &mut out, setup, state, &LONE)?;
-    add_fixed_values(alloc, &mut out, setup, state, fixed)?;
-    add_added_values(alloc, &mut out, setup, state, added)?;
+    add_values(alloc, &mut out, setup, state, &lone_places())?;
+    for number in 0..count {
+        add_values_at(alloc, &mut out, setup, state, number)?;
+    }
     Ok(out)
 }
 
@@ -204,7 +146,7 @@ fn without_zeros(bytes: &[u8]) -> &[u8]
     rest
 }
 
-// Adds the bytes of a region, unless they are zeros.
+// Adds the first `count` bytes of a region, unless all are zeros.
 fn add_region(
     alloc: Global,
     out: &mut Vec<ValuePart>,
@@ -213,9 +155,8 @@ fn add_region(
     region: Region,
     count: u32,
 ) -> Result<(), AllocError>
-    requires most { count ≡ 65536 }
-    requires regions { All (IsRegionPart setup.now (view state.now)) out.old.items }
-    ensures { OnOk result (All (IsRegionPart setup.entry.now (view state.entry.now)) out.new.items) }
+    ensures { OnOk result ((parts : List ValuePart) × (out.new.items ≡ out.old.items ++ parts)
+        × IsRegionShown setup.entry.now (view state.entry.now) count region parts) }
 {
     let whole = bytes_of(alloc, state, region, count)?;
     let bytes = without_zeros(whole.as_slice());
@@ -228,82 +169,82 @@ fn add_region(
     Ok(())
 }
 
-// Adds the bytes of an object. An eventfd has none.
-fn add_object(
-    alloc: Global,
-    out: &mut Vec<ValuePart>,
-    setup: &Setup,
-    state: &State,
+// Adds the regions of an object. An eventfd has none.
+fn add_object_regions(
+    regions: &mut Vec<Region>,
     number: u32,
     contents: &Contents,
-    count: u32,
 ) -> Result<(), AllocError>
-    requires most { count ≡ 65536 }
-    requires regions { All (IsRegionPart setup.now (view state.now)) out.old.items }
-    ensures { OnOk result (All (IsRegionPart setup.entry.now (view state.entry.now)) out.new.items) }
+    ensures { OnOk result (regions.new.items ≡ regions.old.items
+        ++ object_regions number contents.now) }
 {
     match contents {
         Contents::File(_) => {
-            add_region(alloc, out, setup, state, Region::File(number), count)?;
-            add_region(alloc, out, setup, state, Region::Durable(number), count)
+            regions.push(Region::File(number))?;
+            regions.push(Region::Durable(number))?;
         }
-        Contents::Pipe(_) => add_region(alloc, out, setup, state, Region::Pipe(number), count),
-        Contents::EventFd(_) => Ok(()),
+        Contents::Pipe(_) => regions.push(Region::Pipe(number))?,
+        Contents::EventFd(_) => {}
     }
+    Ok(())
 }
 
-// Returns the bytes of the memory and of all objects, each region with `count` bytes at most.
-fn regions_of(
+// Returns the regions of a setup: the memory, and those of its objects.
+fn regions_of_setup(alloc: Global, setup: &Setup) -> Result<Vec<Region>, AllocError>
+    requires { length setup.now.objects ≤ 32 }
+    ensures { IfOk result (λ regions. regions.items ≡ setup_regions setup.now) }
+{
+    let mut regions = Vec::new(alloc);
+    regions.push(Region::Memory)?;
+    for (number, object) in setup.objects.as_slice().iter().enumerate() {
+        add_object_regions(&mut regions, number as u32, &object.contents)?;
+    }
+    Ok(regions)
+}
+
+// Returns the bytes of regions, the first `count` of each.
+fn region_parts(
     alloc: Global,
     setup: &Setup,
     state: &State,
+    regions: &[Region],
     count: u32,
 ) -> Result<Vec<ValuePart>, AllocError>
-    requires { count ≡ 65536 }
-    ensures { IfOk result (λ parts. All (IsRegionPart setup.now (view state.now)) parts.items) }
+    ensures { IfOk result (λ parts.
+        AreRegions setup.now (view state.now) count regions.now parts.items) }
 {
     let mut out = Vec::new(alloc);
-    add_region(alloc, &mut out, setup, state, Region::Memory, count)?;
-    for (number, object) in setup.objects.as_slice().iter().enumerate() {
-        let number = number.min(31) as u32;
-        add_object(
-            alloc,
-            &mut out,
-            setup,
-            state,
-            number,
-            &object.contents,
-            count,
-        )?;
+    for region in regions {
+        add_region(alloc, &mut out, setup, state, *region, count)?;
     }
     Ok(out)
 }
 
-// Returns the values of a state, of a setup's places with an index below `fixed`, and of all others
-// with one below `added`.
+// Returns the values of a state, of its numbered places and bytes those below `count`.
 fn all_values_below(
     alloc: Global,
     setup: &Setup,
     state: &State,
-    fixed: u32,
-    added: u32,
+    count: u32,
 ) -> Result<Values, AllocError>
-    requires fixed { fixed ≡ 8192 }
-    requires added { added ≡ 65536 }
+    requires objects { length setup.now.objects ≤ 32 }
+    requires count { count ≡ 65536 }
     ensures { IfOk result (λ x. AreValues setup.now (view state.now) x.values.items
         x.regions.items) }
 {
-    let values = values_of(alloc, setup, state, fixed, added)?;
-    let regions = regions_of(alloc, setup, state, added)?;
+    let values = values_of(alloc, setup, state, count)?;
+    let regions = regions_of_setup(alloc, setup)?;
+    let regions = region_parts(alloc, setup, state, &regions, count)?;
     Ok(Values { values, regions })
 }
 
 impl Values {
     /// Returns the values of a state.
     pub(crate) fn new(alloc: Global, setup: &Setup, state: &State) -> Result<Values, AllocError>
+        requires { setup_refusal setup.now ≡ None }
         ensures { IfOk result (λ x. AreValues setup.now (view state.now) x.values.items
             x.regions.items) }
     {
-        all_values_below(alloc, setup, state, FIXED_INDEXES, INDEXES)
+        all_values_below(alloc, setup, state, REQUESTS)
     }
 }

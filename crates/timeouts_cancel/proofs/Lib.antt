@@ -1,3 +1,4 @@
+pub mod InTurn
 pub mod Again
 pub mod Filters
 pub mod Joining

@@ -1,6 +1,6 @@
 -- Which requests a cancellation or a removal matches, defined over all requests (io_uring_enter(2),
 -- IORING_OP_ASYNC_CANCEL, IORING_OP_POLL_REMOVE and IORING_OP_TIMEOUT_REMOVE).
-use Rattle.std.specs.Prelude.{◌≡◌, ℕ, ℤ, ◌<◌, ◌≤◌, ◌==◌, Bool, true, false, not, ◌&&◌, if◌then◌else◌, Option, Some, None, slice_get, List}
+use Rattle.std.specs.Prelude.{◌≡◌, ℕ, ℤ, ◌<◌, ◌≤◌, ◌==◌, Bool, true, false, not, ◌&&◌, if◌then◌else◌, Option, Some, None, length, slice_get, List}
 use Rattle.entries.specs.declared.row.Row.{Row}
 use Rattle.model_files.specs.Worlds.{WorldState}
 use Rattle.opcodes.specs.Outcomes.{is_running}
@@ -69,6 +69,40 @@ pub record IsNextMatch (rows : List Row) (key : Key) (me from r : ℕ) (row : Ro
 abbrev pub NoMatchFrom : List Row → Key → ℕ → ℕ → Type 0
 NoMatchFrom rows key me from =
     (i : ℕ) (x : Row) → from ≤ i → slice_get rows i ≡ Some x → is_match key me i x ≡ false
+
+-- Request r doesn't match.
+abbrev pub NoMatch : List Row → Key → ℕ → ℕ → Type 0
+NoMatch rows key me r = (row : Row) → slice_get rows r ≡ Some row → is_match key me r row ≡ false
+
+-- It does, and p is the request with its number.
+pub record IsMatch (rows : List Row) (key : Key) (me r : ℕ) (p : ℕ × Row) : Type 0 where
+  pub number : p.0 ≡ r
+  pub there : slice_get rows r ≡ Some p.1
+  pub matching : is_match key me r p.1 ≡ true
+
+-- r is the first request from a number on that may match.
+pub record IsNextCandidate (rows : List Row) (key : Key) (from r : ℕ) : Type 0 where
+  pub after : from ≤ r
+  pub within : r < length rows
+  pub skipped : (me i : ℕ) (x : Row) → from ≤ i → i < r → slice_get rows i ≡ Some x
+      → is_match key me i x ≡ false
+
+-- No request from a number on can match.
+abbrev pub NoCandidateFrom : List Row → Key → ℕ → Type 0
+NoCandidateFrom rows key from =
+    (me i : ℕ) (x : Row) → from ≤ i → slice_get rows i ≡ Some x → is_match key me i x ≡ false
+
+-- The user_data that the key requires.
+abbrev pub user_of : Key → Option ℕ
+user_of (User n) = Some n
+user_of (Fd number) = None
+user_of (Poll n) = Some n
+user_of (Timeout n) = Some n
+
+-- The first match from `end` on, if there is one. It isn't below `from`.
+abbrev pub FoundPast : List Row → Key → ℕ → ℕ → ℕ → Option (ℕ × Row) → Type 0
+FoundPast rows key me from end None = NoMatchFrom rows key me end
+FoundPast rows key me from end (Some p) = (from ≤ p.0) × IsNextMatch rows key me end p.0 p.1
 
 -- The requests from `from` up to, but not including, `at` were examined, and don't match.
 pub record Passed (rows : List Row) (key : Key) (me from at : ℕ) : Type 0 where

@@ -11,4 +11,4 @@ mod timers;
 
 pub use cascading::fall;
 pub use matching::{Found, Key, all_by, count_by, find, find_by};
-pub use timers::due;
+pub use timers::{count, due};

@@ -1,8 +1,9 @@
-//! The requests that ASYNC_CANCEL, POLL_REMOVE and TIMEOUT_REMOVE match (io_uring_enter(2)). Each
-//! function examines an issued request at most once, and no other requests.
-ghost use Rattle.std.specs.Prelude.{◌≡◌, ◌<◌, Some, IfOk, IfSome, IfNone, length};
-ghost use Rattle.timeouts_cancel.specs.Matches.{holds_number, fits_key, is_match, matches_of, found_by, found_first, waiting_by, IsNextMatch, NoMatchFrom};
-ghost use Rattle.timeouts_cancel.specs.declared.matching.Key.TheVariants.{User};
+//! The requests that ASYNC_CANCEL, POLL_REMOVE and TIMEOUT_REMOVE match (io_uring_enter(2)). A
+//! search costs at most twice a scan of the issued requests up to the match.
+ghost use Rattle.std.specs.Prelude.{◌≡◌, ◌<◌, Some, IfOk, IfSome, IfNone, length, slice_get, if◌then◌else◌};
+ghost use Rattle.entries.specs.declared.row.Row.{Row};
+ghost use Rattle.timeouts_cancel.specs.Matches.{holds_number, fits_key, is_match, matches_of, found_by, found_first, user_of, waiting_by, IsMatch, IsNextCandidate, IsNextMatch, NoCandidateFrom, NoMatch, NoMatchFrom};
+ghost use Rattle.timeouts_cancel.specs.declared.matching.Key.TheVariants.{Fd, User};
 
 use entries::Row;
 use links_drains::{Table, is_guard, is_issued};
@@ -100,15 +101,121 @@ fn next_match(table: &Table, key: Key, me: u32, from: u32) -> Option<(u32, Row)>
     ensures none { IfNone result (NoMatchFrom table.now key me from) }
     ensures few { IfSome result (λ p. p.0 < 65536) }
 {
+    match user_of(key) {
+        Some(user_data) => next_with_user(table, key, me, from, user_data),
+        None => next_in_turn(table, key, me, from),
+    }
+}
+
+// The user_data that the key requires.
+fn user_of(key: Key) -> Option<u64>
+    ensures { result ≡ user_of key }
+{
+    match key {
+        Key::User(sought) | Key::Poll(sought) | Key::Timeout(sought) => Some(sought),
+        Key::Fd(_) => None,
+    }
+}
+
+// The first match from a number on, by two searches in turn: one examines the issued requests by
+// ascending number, the other those with the hash of the user_data, by descending number. They stop
+// where the first decides, or where they meet.
+fn next_with_user(table: &Table, key: Key, me: u32, from: u32, user_data: u64) -> Option<(u32, Row)>
+    requires { user_of key ≡ Some user_data }
+    ensures some { IfSome result (λ p. IsNextMatch table.now key me from p.0 p.1) }
+    ensures none { IfNone result (NoMatchFrom table.now key me from) }
+    ensures few { IfSome result (λ p. p.0 < 65536) }
+{
+    prove!(table.len() <= 65536);
     let mut at = from;
-    while let Some(r) = table.next_issued(at) {
-        let row = table.row(r);
-        if is_match(key, me, r, &row) {
-            return Some((r, row));
+    let mut least = None;
+    let mut end = table.end_of_user(user_data);
+    while at < end {
+        let r = table.next_issued(at)?;
+        if let Some(found) = matching(table, key, me, r) {
+            return Some(found);
+        }
+        at = r + 1;
+        let last = end - 1;
+        least = or_later(table, key, me, last, least);
+        end = table.end_before(user_data, last);
+    }
+    least
+}
+
+// Request r, if it matches, or else a later match.
+fn or_later(
+    table: &Table,
+    key: Key,
+    me: u32,
+    r: u32,
+    later: Option<(u32, Row)>,
+) -> Option<(u32, Row)>
+    requires { r < length table.now }
+    ensures { (row : Row) → slice_get table.now r ≡ Some row
+        → result ≡ (if is_match key me r row then Some (r, row) else later) }
+{
+    let row = table.row(r);
+    if is_match(key, me, r, &row) {
+        Some((r, row))
+    } else {
+        later
+    }
+}
+
+// The first match from a number on, by one search: through the requests that hold the descriptor,
+// or through all issued ones.
+fn next_in_turn(table: &Table, key: Key, me: u32, from: u32) -> Option<(u32, Row)>
+    ensures some { IfSome result (λ p. IsNextMatch table.now key me from p.0 p.1) }
+    ensures none { IfNone result (NoMatchFrom table.now key me from) }
+    ensures few { IfSome result (λ p. p.0 < 65536) }
+{
+    let mut at = from;
+    while let Some(r) = next_candidate(table, key, at) {
+        if let Some(found) = matching(table, key, me, r) {
+            return Some(found);
         }
         at = r + 1;
     }
     None
+}
+
+// The first request from a number on that may match.
+fn next_candidate(table: &Table, key: Key, from: u32) -> Option<u32>
+    ensures some { IfSome result (λ r. IsNextCandidate table.now key from r) }
+    ensures none { IfNone result (NoCandidateFrom table.now key from) }
+    ensures few { IfSome result (λ r. r < 65536) }
+{
+    match key {
+        Key::Fd(number) => next_holder(table, number, from),
+        _ => table.next_issued(from),
+    }
+}
+
+// The first request from a number on that holds the descriptor. No descriptor is negative.
+fn next_holder(table: &Table, number: i32, from: u32) -> Option<u32>
+    ensures some { IfSome result (λ r. IsNextCandidate table.now (Fd number) from r) }
+    ensures none { IfNone result (NoCandidateFrom table.now (Fd number) from) }
+    ensures few { IfSome result (λ r. r < 65536) }
+{
+    if number < 0 {
+        return None;
+    }
+    table.next_holder(number as u32, from)
+}
+
+// Request r, if it matches.
+fn matching(table: &Table, key: Key, me: u32, r: u32) -> Option<(u32, Row)>
+    requires { r < length table.now }
+    ensures some { IfSome result (λ p. IsMatch table.now key me r p) }
+    ensures none { IfNone result (NoMatch table.now key me r) }
+{
+    let row = table.row(r);
+    if is_match(key, me, r, &row) {
+        Some((r, row))
+    } else {
+        None
+    }
 }
 
 fn is_match(key: Key, me: u32, r: u32, row: &Row) -> bool

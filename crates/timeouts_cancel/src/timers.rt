@@ -22,7 +22,7 @@ pub fn due(row: &Row, now: u64) -> bool
 }
 
 /// Returns how many of the completions count for TIMEOUTs.
-pub(crate) fn count(table: &Table, endings: &[(u32, i32)]) -> u32
+pub fn count(table: &Table, endings: &[(u32, i32)]) -> u32
     requires few { length endings.now < 2 ^ 32 }
     ensures { result ≡ counted_in table.now endings.now }
 {

@@ -1,8 +1,8 @@
 //! Notes of slots of the completion ring.
 
 use crate::notes::slots::{Slotted, differs};
-use crate::packing::changes::{COMPLETION, put_place};
-use crate::packing::values::put_completion;
+use crate::packing::changes::{COMPLETION, put_framed};
+use crate::packing::values::completion_numbers;
 use crate::part::At;
 use crate::place::Place;
 use crate::value::{Change, Value};
@@ -44,8 +44,13 @@ impl Slotted for CompletionNote {
     }
 
     fn pack(&self, out: &mut Vec<u8>) -> Result<(), AllocError> {
-        put_place(out, self.place(), self.slot, COMPLETION)?;
-        put_completion(out, &self.old)?;
+        put_framed(
+            out,
+            self.place(),
+            self.slot,
+            COMPLETION,
+            &completion_numbers(self.old),
+        )?;
         Ok(())
     }
 

@@ -1,7 +1,6 @@
 //! Notes of requests, and of the places that hold neither a number, a byte nor
 //! a completion of the ring.
-ghost use Rattle.std.specs.Prelude.{◌≡◌, ◌==◌, ◌∷◌, [], Some, option_map, true, MatchOption, OnOk};
-ghost use Rattle.std.specs.Int.{w64, cast_unsigned};
+ghost use Rattle.std.specs.Prelude.{◌≡◌, ◌∷◌, [], Some, option_map, true, not, is_some, MatchOption, OnOk};
 ghost use Rattle.entries.specs.declared.row.Row.{Row};
 ghost use Rattle.places.specs.declared.value.Value.TheVariants.{Requested};
 ghost use Rattle.places.specs.declared.place.Place.TheVariants.{Request};
@@ -15,13 +14,16 @@ ghost use Rattle.places.specs.Packed.{change_of, after_change as after_packed};
 use crate::listed::Listed;
 use crate::notes::slots::{Slotted, differs};
 use crate::packing::changes::{
-    AWAKE, COMPLETION, ENTRY, NOTHING, REAPED, ROW, SIGNED, STAGE, put_number_change, put_place,
+    AWAKE, COMPLETION, ENTRY, REAPED, ROW, SIGNED, STAGE, put_absence, put_framed,
+    put_number_change,
 };
-use crate::packing::values::{put_completion, put_entry, put_reaped, put_row, put_stage};
+use crate::packing::values::{
+    awake_numbers, completion_numbers, entry_numbers, reaped_numbers, row_numbers, signed_numbers,
+    stage_numbers,
+};
 use crate::part::At;
 use crate::place::Place;
 use crate::value::{Change, Stage, Value};
-use compact_size::put_numbers;
 use entries::{Cqe, Row, Sqe};
 use std::alloc::AllocError;
 
@@ -102,6 +104,13 @@ impl RowNote {
         RowNote::Other(place.kind(), place.index(), old)
     }
 
+    /// Returns whether the place was absent.
+    pub fn is_absence(&self) -> bool
+        ensures { result ≡ not (is_some (row_change self.now).old) }
+    {
+        matches!(self, RowNote::Absent(_) | RowNote::Other(_, _, None))
+    }
+
     /// Returns how many of `left` elements of a list remain after undoing this note. An element
     /// that was absent is removed with all after it.
     #[tactic(auto, unfolding(crate::specs::Slots::other_place))]
@@ -156,18 +165,6 @@ fn small_value(old: Option<Small>) -> Option<Value>
     }
 }
 
-fn long_number(number: i64) -> u64
-    ensures { result ≡ cast_unsigned w64 number }
-{
-    number.cast_unsigned()
-}
-
-fn awake_number(awake: bool) -> u64
-    ensures { (result == 1) ≡ awake }
-{
-    if awake { 1 } else { 0 }
-}
-
 /// Appends a place and its old value to packed bytes. A byte has no packed form: it is refused as
 /// if an allocation failed, and the record then stays unpacked.
 fn put_small(out: &mut Vec<u8>, place: Place, index: u32, old: &Small) -> Result<(), AllocError>
@@ -178,34 +175,34 @@ fn put_small(out: &mut Vec<u8>, place: Place, index: u32, old: &Small) -> Result
     match old {
         Small::Amount(number) => put_number_change(out, place, index, *number),
         Small::Answer(number) => {
-            put_place(out, place, index, SIGNED)?;
-            put_numbers(out, &[long_number(*number)])?;
+            put_framed(out, place, index, SIGNED, &signed_numbers(*number))?;
             Ok(())
         }
         Small::Octet(_) => Err(AllocError),
         Small::Submitted(entry) => {
-            put_place(out, place, index, ENTRY)?;
-            put_entry(out, entry)?;
+            put_framed(out, place, index, ENTRY, &entry_numbers(*entry))?;
             Ok(())
         }
         Small::Posted(completion) => {
-            put_place(out, place, index, COMPLETION)?;
-            put_completion(out, completion)?;
+            put_framed(
+                out,
+                place,
+                index,
+                COMPLETION,
+                &completion_numbers(*completion),
+            )?;
             Ok(())
         }
         Small::Next(stage) => {
-            put_place(out, place, index, STAGE)?;
-            put_stage(out, stage)?;
+            put_framed(out, place, index, STAGE, &stage_numbers(*stage))?;
             Ok(())
         }
         Small::Taken(reaped) => {
-            put_place(out, place, index, REAPED)?;
-            put_reaped(out, reaped)?;
+            put_framed(out, place, index, REAPED, &reaped_numbers(*reaped))?;
             Ok(())
         }
         Small::Up(awake) => {
-            put_place(out, place, index, AWAKE)?;
-            put_numbers(out, &[awake_number(*awake)])?;
+            put_framed(out, place, index, AWAKE, &awake_numbers(*awake))?;
             Ok(())
         }
     }
@@ -224,7 +221,7 @@ fn put_other(
 {
     match old {
         None => {
-            put_place(out, place, index, NOTHING)?;
+            put_absence(out, place, index)?;
             Ok(())
         }
         Some(small) => {
@@ -277,12 +274,14 @@ impl Slotted for RowNote {
     fn pack(&self, out: &mut Vec<u8>) -> Result<(), AllocError> {
         match self {
             RowNote::Absent(row) => {
-                put_place(out, Place::Request(*row), *row, NOTHING)?;
+                put_absence(out, Place::Request(*row), *row)?;
                 Ok(())
             }
             RowNote::Was(row, old) => {
-                put_place(out, Place::Request(*row), *row, ROW)?;
-                put_row(out, old)?;
+                let Some(numbers) = row_numbers(*old) else {
+                    return Err(AllocError);
+                };
+                put_framed(out, Place::Request(*row), *row, ROW, &numbers)?;
                 Ok(())
             }
             RowNote::Other(kind, index, old) => {

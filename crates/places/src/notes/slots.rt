@@ -267,10 +267,13 @@ fn reach(marks: &mut Vec<usize>, slot: usize) -> Result<(), AllocError>
     ensures kept { (i : ℕ) → i < length marks.old.items
         → slice_get marks.new.items i ≡ slice_get marks.old.items i }
 {
-    while marks.len() <= slot {
-        marks.push(0)?;
+    if slot < marks.len() {
+        return Ok(());
     }
-    Ok(())
+    let Some(len) = slot.checked_add(1) else {
+        return Err(AllocError);
+    };
+    marks.resize(len, 0)
 }
 
 /// Returns whether a slot has a note.

@@ -1,5 +1,5 @@
-//! Packed changes. A change is a head, an index and the numbers of its old value. The head is the
-//! kind of the place plus 30 times the shape of the value.
+//! Packed changes. A change is a head, an index and its old value. The head is the kind of the place
+//! plus 30 times the shape of the value.
 ghost use Rattle.std.specs.Prelude.{◌≡◌, ◌+◌, ◌*◌, ◌^◌, ◌<◌, ◌≤◌, ◌∷◌, [], None, Some, OnOk, MatchOption, is_some};
 ghost use Rattle.places.specs.declared.listed.Listed.TheVariants.{Requests, Overflowed};
 ghost use Rattle.places.specs.declared.value.Value.TheVariants.{Number};
@@ -10,7 +10,8 @@ ghost use Rattle.places.specs.PlaceNumbers.{place_of};
 ghost use Rattle.places.specs.Heads.{IsHead, IsFirst, number_was};
 ghost use Rattle.compact_size.specs.Reading.{read_all, Puts};
 ghost use Rattle.compact_size.specs.CompactSizes.{number_of, after, after_many};
-ghost use Rattle.places.specs.Packed.{size_of_shape, value_of_shape, change_of, after_change, packed};
+ghost use Rattle.places.specs.declared.value.Value.{Value};
+ghost use Rattle.places.specs.Packed.{Spells, framed_value, value_of_shape, after_value, change_of, after_change, packed};
 
 use crate::listed::Listed;
 use crate::notes::leaving::left_without;
@@ -18,14 +19,15 @@ use crate::notes::slots::is_same_place;
 use crate::packing::values::{read_completion, read_entry, read_reaped, read_row, read_stage};
 use crate::place::Place;
 use crate::value::{Change, Value};
-use compact_size::{CompactSizes, put_numbers};
+use compact_size::{CompactSizes, put_frame, put_numbers};
 use std::alloc::AllocError;
 use std::marker::Model;
 
 /// The number of kinds of places.
 const KINDS: u64 = 30;
 
-/// The shapes of old values. `NOTHING` means that the place was absent.
+/// The shapes of old values. `NOTHING` means that the place was absent. From `SIGNED` on, the
+/// numbers of the value are in a frame.
 pub const NOTHING: u64 = 0;
 
 pub const NUMBER: u64 = 1;
@@ -52,7 +54,7 @@ fn head_of(place: Place, shape: u64) -> u64
 }
 
 /// Appends a head and an index.
-pub fn put_place(out: &mut Vec<u8>, place: Place, index: u32, shape: u64) -> Result<(), AllocError>
+fn put_place(out: &mut Vec<u8>, place: Place, index: u32, shape: u64) -> Result<(), AllocError>
     requires { shape ≤ 8 }
     ensures put { OnOk result (Puts number_of after out.old.items
         ((kind_of place + 30 * shape) ∷ index ∷ []) out.new.items) }
@@ -77,22 +79,65 @@ pub fn put_number_change(
     Ok(())
 }
 
+/// Appends the change of a place that was absent.
+pub fn put_absence(out: &mut Vec<u8>, place: Place, index: u32) -> Result<(), AllocError>
+    requires { place_of (kind_of place) index 0 ≡ place }
+    ensures { OnOk result (Puts change_of after_change out.old.items
+        (record { place = place; old = None } ∷ []) out.new.items) }
+{
+    put_place(out, place, index, NOTHING)?;
+    Ok(())
+}
+
+/// Appends the change of a place that held the value with these numbers.
+pub fn put_framed(
+    out: &mut Vec<u8>,
+    place: Place,
+    index: u32,
+    shape: u64,
+    numbers: &[u64],
+) -> Result<(), AllocError>
+    requires again { place_of (kind_of place) index 0 ≡ place }
+    requires framed { 2 ≤ shape }
+    requires shape { shape ≤ 8 }
+    ensures { OnOk result ((v : Value) → Spells shape numbers.now v
+        → Puts change_of after_change out.old.items
+        (record { place = place; old = Some v } ∷ []) out.new.items) }
+{
+    put_place(out, place, index, shape)?;
+    put_frame(out, numbers)?;
+    Ok(())
+}
+
 /// Reads an old value by its shape.
-#[tactic(auto, unfolding(crate::specs::Packed::value_of_shape))]
+#[tactic(auto, unfolding(crate::specs::Packed::value_of_shape, crate::specs::Packed::after_value))]
 fn read_value(bytes: &mut CompactSizes<'_>, shape: u64) -> Option<Value>
     ensures value { result ≡ value_of_shape shape bytes.old }
-    ensures left { bytes.new ≡ after_many (size_of_shape shape) bytes.old }
+    ensures left { bytes.new ≡ after_value shape bytes.old }
 {
     match shape {
         NOTHING => None,
         NUMBER => Some(Value::Number(bytes.number())),
-        SIGNED => Some(Value::Signed(bytes.long())),
-        ENTRY => Some(Value::Entry(read_entry(bytes))),
-        COMPLETION => Some(Value::Completed(read_completion(bytes))),
-        ROW => Some(Value::Requested(read_row(bytes))),
-        STAGE => Some(Value::Staged(read_stage(bytes))),
-        REAPED => Some(Value::Reaped(read_reaped(bytes))),
-        _ => Some(Value::Awake(bytes.number() == 1)),
+        _ => {
+            let mut frame = bytes.frame();
+            Some(read_framed(&mut frame, shape))
+        }
+    }
+}
+
+/// Reads the value in a frame by its shape.
+#[tactic(auto, unfolding(crate::specs::Packed::framed_value))]
+fn read_framed(frame: &mut CompactSizes<'_>, shape: u64) -> Value
+    ensures { result ≡ framed_value shape frame.old }
+{
+    match shape {
+        SIGNED => Value::Signed(frame.long()),
+        ENTRY => Value::Entry(read_entry(frame)),
+        COMPLETION => Value::Completed(read_completion(frame)),
+        ROW => Value::Requested(read_row(frame)),
+        STAGE => Value::Staged(read_stage(frame)),
+        REAPED => Value::Reaped(read_reaped(frame)),
+        _ => Value::Awake(frame.number() == 1),
     }
 }
 
@@ -158,23 +203,21 @@ pub struct Head {
     was_there: bool,
 }
 
-/// Returns how many numbers encode an old value of this shape.
-fn size_of_shape(shape: u64) -> u64
-    ensures { result ≡ size_of_shape shape }
+/// Skips an old value.
+#[tactic(auto, unfolding(crate::specs::Packed::after_value))]
+fn skip_value(bytes: &mut CompactSizes<'_>, shape: u64)
+    ensures { bytes.new ≡ after_value shape bytes.old }
 {
     match shape {
-        NOTHING => 0,
-        NUMBER | SIGNED => 1,
-        ENTRY => 14,
-        COMPLETION => 3,
-        ROW => 21,
-        STAGE => 2,
-        REAPED => 4,
-        _ => 1,
+        NOTHING => {}
+        NUMBER => {
+            let _number = bytes.number();
+        }
+        _ => bytes.skip_frame(),
     }
 }
 
-/// Reads the head and index of a change, and skips the numbers of its old value.
+/// Reads the head and index of a change, and skips its old value.
 #[tactic(auto, unfolding(crate::specs::Packed::change_of, crate::specs::Packed::after_change))]
 fn read_head(bytes: &mut CompactSizes<'_>) -> Head
     ensures value { IsHead result (change_of bytes.old) }
@@ -183,7 +226,7 @@ fn read_head(bytes: &mut CompactSizes<'_>) -> Head
     let head = bytes.number();
     let index = bytes.word();
     let shape = head / KINDS;
-    bytes.skip(size_of_shape(shape));
+    skip_value(bytes, shape);
     Head {
         kind: (head % KINDS) as u8,
         index,
@@ -200,7 +243,7 @@ fn read_number(bytes: &mut CompactSizes<'_>) -> Option<(Place, u64)>
     if head / KINDS != NUMBER {
         return None;
     }
-    bytes.skip(1);
+    let _head = bytes.number();
     let index = bytes.word();
     let number = bytes.number();
     Some((place_of((head % KINDS) as u8, index), number))
@@ -233,12 +276,12 @@ impl<'a> Model for PackedChanges<'a> {
 }
 
 impl<'a> PackedChanges<'a> {
-    /// Returns an iterator over bytes that begin with the number of changes.
+    /// Returns an iterator over bytes that begin with twice the number of changes, or 1 more.
     pub fn new(bytes: &'a [u8]) -> PackedChanges<'a>
         ensures { result ≡ packed bytes.now }
     {
         let mut numbers = CompactSizes::new(bytes);
-        let left = numbers.number();
+        let left = numbers.number() / 2;
         PackedChanges {
             left,
             bytes: numbers,

@@ -1,17 +1,15 @@
 //! Values as lists of numbers, and back. An optional number is encoded as 0 if it is absent,
 //! and as n + 1 if it is n.
-ghost use Rattle.std.specs.Prelude.{◌≡◌, ◌<◌, ◌%◌, ◌∷◌, ◌++◌, [], ℕ, length, drop, slice_index, IfSome, OnOk};
+ghost use Rattle.std.specs.Prelude.{◌≡◌, ◌<◌, ◌%◌, ◌++◌, ℕ, length, drop, slice_index, Some, IfSome};
 ghost use Rattle.byteorder.specs.Endian.{little_bytes, little_number};
-ghost use Rattle.entries.specs.Layout.{EntryFits, CompletionFits};
-ghost use Rattle.compact_size.specs.Reading.{Puts};
 ghost use Rattle.compact_size.specs.CompactSizes.{number_of, after, after_many};
-ghost use Rattle.places.specs.Packed.{option_number, option_from, word_from, phase_number, phase_from, completion_list, entry_list, row_list, stage_list, StageFits, completion_of, entry_of, row_of, stage_of, reaped_of, RowAgain};
+ghost use Rattle.places.specs.declared.value.Value.TheVariants.{Signed, Entry, Completed, Requested, Staged, Reaped, Awake};
+ghost use Rattle.places.specs.Packed.{option_number, option_from, word_from, phase_number, phase_from, completion_of, entry_of, row_of, stage_of, reaped_of, Spells};
 
 use crate::value::Stage;
 use byteorder::{ByteOrder, LittleEndian};
-use compact_size::{CompactSizes, put_numbers};
+use compact_size::CompactSizes;
 use entries::{Cqe, Phase, Row, Sqe};
-use std::alloc::AllocError;
 
 // Encodes a time in nanoseconds; returns `None` if it is 2^64 - 1 or more.
 fn time_number(time: Option<u128>) -> Option<u64>
@@ -70,9 +68,16 @@ fn phase_from(number: u64) -> Phase
     }
 }
 
-fn completion_numbers(completion: Cqe) -> [u64; 3]
-    ensures numbers { result ≡ completion_list completion }
-    ensures fits { CompletionFits completion }
+/// Returns the numbers of a signed number.
+pub fn signed_numbers(number: i64) -> [u64; 1]
+    ensures { Spells 2 result (Signed number) }
+{
+    [number.cast_unsigned()]
+}
+
+/// Returns the numbers of a completion.
+pub fn completion_numbers(completion: Cqe) -> [u64; 3]
+    ensures { Spells 4 result (Completed completion) }
 {
     [
         completion.user_data,
@@ -94,23 +99,21 @@ fn halves_of(rest: &[u8]) -> (u64, u64)
     )
 }
 
-fn entry_numbers(entry: Sqe) -> [u64; 14]
-    ensures numbers { result ≡ entry_list entry }
-    ensures fits { EntryFits entry }
-    ensures size { length entry.rest ≡ 16 }
-    ensures bytes { (k : ℕ) → slice_index entry.rest k < 256 }
+/// Returns the numbers of an entry.
+pub fn entry_numbers(entry: Sqe) -> [u64; 14]
+    ensures { Spells 3 result (Entry entry) }
 {
     let (first, second) = halves_of(&entry.rest);
     [
-        entry.opcode as u64,
-        entry.flags as u64,
-        entry.ioprio as u64,
-        entry.fd.cast_unsigned() as u64,
-        entry.off,
-        entry.addr,
-        entry.len as u64,
-        entry.operation_flags as u64,
         entry.user_data,
+        entry.opcode as u64,
+        entry.fd.cast_unsigned() as u64,
+        entry.len as u64,
+        entry.addr,
+        entry.off,
+        entry.flags as u64,
+        entry.operation_flags as u64,
+        entry.ioprio as u64,
         entry.buf_index as u64,
         entry.personality as u64,
         entry.splice_fd_in.cast_unsigned() as u64,
@@ -119,60 +122,42 @@ fn entry_numbers(entry: Sqe) -> [u64; 14]
     ]
 }
 
-/// Encodes a row without its entry; returns `None` if a time is 2^64 - 1 nanoseconds or more.
-fn row_numbers(row: Row) -> Option<[u64; 7]>
-    ensures numbers { IfSome result (λ ns. ns ≡ row_list row) }
-    ensures again { RowAgain row }
+/// Returns the numbers of a row, or `None` if a time is 2^64 - 1 nanoseconds or more.
+pub fn row_numbers(row: Row) -> Option<[u64; 21]>
+    ensures { IfSome result (λ ns. Spells 5 ns (Requested row)) }
 {
-    let target = index_number(row.target);
-    let held = index_number(row.held);
-    let phase = phase_number(row.phase);
-    let deadline = time_number(row.deadline)?;
+    let entry = row.entry;
+    let (first, second) = halves_of(&entry.rest);
     let time = time_number(row.time)?;
+    let deadline = time_number(row.deadline)?;
     Some([
-        deadline,
-        time,
-        row.base as u64,
         row.unit as u64,
-        target,
-        held,
-        phase,
+        phase_number(row.phase),
+        entry.user_data,
+        entry.opcode as u64,
+        entry.fd.cast_unsigned() as u64,
+        entry.len as u64,
+        entry.addr,
+        entry.off,
+        entry.flags as u64,
+        entry.operation_flags as u64,
+        entry.ioprio as u64,
+        entry.buf_index as u64,
+        entry.personality as u64,
+        entry.splice_fd_in.cast_unsigned() as u64,
+        first,
+        second,
+        index_number(row.held),
+        row.base as u64,
+        time,
+        deadline,
+        index_number(row.target),
     ])
 }
 
-/// Appends a completion.
-pub fn put_completion(out: &mut Vec<u8>, completion: &Cqe) -> Result<(), AllocError>
-    ensures { OnOk result
-        (Puts completion_of (after_many 3) out.old.items (completion.now ∷ []) out.new.items) }
-{
-    put_numbers(out, &completion_numbers(*completion))?;
-    Ok(())
-}
-
-/// Appends an entry.
-pub fn put_entry(out: &mut Vec<u8>, entry: &Sqe) -> Result<(), AllocError>
-    ensures { OnOk result
-        (Puts entry_of (after_many 14) out.old.items (entry.now ∷ []) out.new.items) }
-{
-    put_numbers(out, &entry_numbers(*entry))?;
-    Ok(())
-}
-
-/// Appends a row. A time of 2^64 - 1 nanoseconds or more is refused as if an allocation failed.
-pub fn put_row(out: &mut Vec<u8>, row: &Row) -> Result<(), AllocError>
-    ensures { OnOk result (Puts row_of (after_many 21) out.old.items (row.now ∷ []) out.new.items) }
-{
-    let Some(numbers) = row_numbers(*row) else {
-        return Err(AllocError);
-    };
-    put_numbers(out, &numbers)?;
-    put_entry(out, &row.entry)?;
-    Ok(())
-}
-
-fn stage_numbers(stage: Stage) -> [u64; 2]
-    ensures numbers { result ≡ stage_list stage }
-    ensures fits { StageFits stage }
+/// Returns the numbers of a stage.
+pub fn stage_numbers(stage: Stage) -> [u64; 2]
+    ensures { Spells 6 result (Staged stage) }
 {
     match stage {
         Stage::Ready => [0, 0],
@@ -180,31 +165,26 @@ fn stage_numbers(stage: Stage) -> [u64; 2]
     }
 }
 
-/// Appends a stage.
-pub fn put_stage(out: &mut Vec<u8>, stage: &Stage) -> Result<(), AllocError>
-    ensures { OnOk result
-        (Puts stage_of (after_many 2) out.old.items (stage.now ∷ []) out.new.items) }
-{
-    put_numbers(out, &stage_numbers(*stage))?;
-    Ok(())
-}
-
-/// Appends the last reaped completion, if any.
-pub fn put_reaped(out: &mut Vec<u8>, reaped: &Option<Cqe>) -> Result<(), AllocError>
-    ensures { OnOk result
-        (Puts reaped_of (after_many 4) out.old.items (reaped.now ∷ []) out.new.items) }
+/// Returns the numbers of the last reaped completion: 1 and its own, or zeros if there is none.
+pub fn reaped_numbers(reaped: Option<Cqe>) -> [u64; 4]
+    ensures { Spells 7 result (Reaped reaped) }
 {
     match reaped {
-        None => {
-            put_numbers(out, &[0, 0, 0, 0])?;
-            Ok(())
-        }
-        Some(completion) => {
-            put_numbers(out, &[1])?;
-            put_completion(out, completion)?;
-            Ok(())
-        }
+        None => [0; 4],
+        Some(completion) => [
+            1,
+            completion.user_data,
+            completion.res.cast_unsigned() as u64,
+            completion.flags as u64,
+        ],
     }
+}
+
+/// Returns the number of whether the poller is awake.
+pub fn awake_numbers(awake: bool) -> [u64; 1]
+    ensures { Spells 8 result (Awake awake) }
+{
+    if awake { [1] } else { [0] }
 }
 
 /// Reads a completion.
@@ -226,15 +206,15 @@ pub fn read_entry(bytes: &mut CompactSizes<'_>) -> Sqe
     ensures left { bytes.new ≡ after_many 14 bytes.old }
 {
     Sqe {
-        opcode: bytes.byte(),
-        flags: bytes.byte(),
-        ioprio: bytes.half(),
-        fd: bytes.signed(),
-        off: bytes.number(),
-        addr: bytes.number(),
-        len: bytes.word(),
-        operation_flags: bytes.word(),
         user_data: bytes.number(),
+        opcode: bytes.byte(),
+        fd: bytes.signed(),
+        len: bytes.word(),
+        addr: bytes.number(),
+        off: bytes.number(),
+        flags: bytes.byte(),
+        operation_flags: bytes.word(),
+        ioprio: bytes.half(),
         buf_index: bytes.half(),
         personality: bytes.half(),
         splice_fd_in: bytes.signed(),
@@ -262,14 +242,14 @@ pub fn read_row(bytes: &mut CompactSizes<'_>) -> Row
     ensures left { bytes.new ≡ after_many 21 bytes.old }
 {
     Row {
-        deadline: time_from(bytes.number()),
-        time: time_from(bytes.number()),
-        base: bytes.word(),
         unit: bytes.word(),
-        target: index_from(bytes.number()),
-        held: index_from(bytes.number()),
         phase: phase_from(bytes.number()),
         entry: read_entry(bytes),
+        held: index_from(bytes.number()),
+        base: bytes.word(),
+        time: time_from(bytes.number()),
+        deadline: time_from(bytes.number()),
+        target: index_from(bytes.number()),
     }
 }
 

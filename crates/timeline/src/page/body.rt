@@ -15,7 +15,7 @@ pub(crate) const TEXT: &str = r##"</style>
 <span><button type="button" id="less" aria-label="zoom out">&minus;</button> <button type="button" id="more" aria-label="zoom in">+</button> <button type="button" id="fit">Whole run</button></span>
 <button type="button" id="raw" aria-pressed="false">Raw bytes</button>
 <details id="key"><summary>Key</summary><div id="legend"></div>
-<p class="faint"><kbd>&larr;</kbd> <kbd>&rarr;</kbd> event (<kbd>Shift</kbd>: 10), <kbd>&uarr;</kbd> <kbd>&darr;</kbd> lane, <kbd>p</kbd> <kbd>n</kbd> event of the lane, <kbd>f</kbd> <kbd>F</kbd> finding, <kbd>/</kbd> find, <kbd>]</kbd> <kbd>[</kbd> what was found, <kbd>Home</kbd> <kbd>End</kbd>, <kbd>+</kbd> <kbd>&minus;</kbd> <kbd>0</kbd> zoom, <kbd>r</kbd> raw bytes, <kbd>?</kbd> this key. The wheel zooms, dragging moves the picture.</p></details>
+<p class="faint"><kbd>&larr;</kbd> <kbd>&rarr;</kbd> event (<kbd>Shift</kbd>: 10), <kbd>&uarr;</kbd> <kbd>&darr;</kbd> lane, <kbd>p</kbd> <kbd>n</kbd> event of the lane, <kbd>f</kbd> <kbd>F</kbd> finding, <kbd>/</kbd> find, <kbd>]</kbd> <kbd>[</kbd> what was found, <kbd>Home</kbd> <kbd>End</kbd>, <kbd>+</kbd> <kbd>&minus;</kbd> <kbd>0</kbd> zoom, <kbd>r</kbd> raw and more bytes, <kbd>?</kbd> this key, <kbd>Esc</kbd> back to the picture. While the state has the focus (<kbd>Tab</kbd>), arrows scroll it. The wheel zooms, and over the labels it scrolls; dragging moves the picture.</p></details>
 </div>
 <svg id="overview" role="img" aria-label="The whole run, with its findings"></svg>
 </header>

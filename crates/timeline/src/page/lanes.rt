@@ -160,7 +160,9 @@ function is_used(lane) {
   const low = Math.floor(view.left), high = last_moment();
   return has_between(events_by_lane.get(lane.key) || [], low, high) || lane.spans.some((it) => it.since <= high && it.until >= low);
 }
-const passes_filter = (lane) => !view.thread || (lane.row ? lane.row.by === view.thread : !lane.thread || lane.thread === view.thread);
+
+// Returns whether a lane is one of the thread that is chosen, if one is. Who submitted a row before the first moment is not known.
+const passes_filter = (lane) => !view.thread || (lane.row ? [view.thread, null].includes(lane.row.by) : !lane.thread || lane.thread === view.thread);
 
 // Returns the lanes that are drawn, each with its top, and how many are folded away.
 function layout() {

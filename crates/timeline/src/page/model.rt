@@ -12,10 +12,16 @@ const OPCODES = {
   0: 'NOP', 3: 'FSYNC', 6: 'POLL_ADD', 7: 'POLL_REMOVE', 11: 'TIMEOUT', 12: 'TIMEOUT_REMOVE', 14: 'ASYNC_CANCEL',
   15: 'LINK_TIMEOUT', 22: 'READ', 23: 'WRITE',
 };
-const FLAGS = {1: 'FIXED_FILE', 2: 'IO_DRAIN', 4: 'IO_LINK', 8: 'IO_HARDLINK', 16: 'ASYNC', 32: 'BUFFER_SELECT'};
+const FLAGS = {
+  1: 'FIXED_FILE', 2: 'IO_DRAIN', 4: 'IO_LINK', 8: 'IO_HARDLINK', 16: 'ASYNC', 32: 'BUFFER_SELECT', 64: 'CQE_SKIP_SUCCESS',
+};
+// The flags of an operation, by its opcode.
+const OPERATION_FLAGS = {
+  3: {1: 'DATASYNC'}, 6: {1: 'POLLIN', 4: 'POLLOUT', 8: 'POLLERR', 16: 'POLLHUP'}, 11: {1: 'ABS'}, 14: {1: 'ALL', 2: 'FD'}, 15: {1: 'ABS'},
+};
 const RING_FLAGS = {1: 'NEED_WAKEUP', 2: 'CQ_OVERFLOW'};
 const DRAIN = 2, HARDLINK = 8;
-const POLL_ADD = 6, TIMEOUT = 11, LINK_TIMEOUT = 15, READ = 22, WRITE = 23;
+const FSYNC = 3, POLL_ADD = 6, TIMEOUT = 11, LINK_TIMEOUT = 15, READ = 22, WRITE = 23;
 const REGION_SIZE = 65536, NO_OFFSET = '18446744073709551615';
 
 // ---- places
@@ -72,12 +78,12 @@ function completion_of(text) {
 const name_of = (op) => OPCODES[op] || `op ${op}`;
 const names_in = (flags, names) => Object.keys(names).filter((bit) => flags & bit).map((bit) => names[bit]);
 const result_text = (result) => (ERRORS[-result] ? `${result} ${ERRORS[-result]}` : String(result));
-const flags_text = (flags) => (flags ? `flags ${[flags, ...names_in(flags, FLAGS)].join(' ')}` : '');
+const flags_text = (word, flags, names) => (flags ? `${word} ${[flags, ...names_in(flags, names)].join(' ')}` : '');
 
 function entry_text(entry) {
-  const parts = [`${name_of(entry.op)} ud ${entry.user}`, flags_text(entry.flags)];
+  const parts = [`${name_of(entry.op)} ud ${entry.user}`, flags_text('flags', entry.flags, FLAGS)];
   if (entry.op !== 0) parts.push(`fd ${entry.fd} off ${entry.off === NO_OFFSET ? '-1' : entry.off} addr ${entry.addr} len ${entry.len}`);
-  if (entry.opflags) parts.push(`opflags ${entry.opflags}`);
+  parts.push(flags_text('opflags', entry.opflags, OPERATION_FLAGS[entry.op] || {}));
   return parts.filter((it) => it).join(', ');
 }
 
@@ -126,23 +132,43 @@ function first_state(drawn) {
   return state;
 }
 
-// Writes the old value of a change, or the new one.
-function put(state, [place, old, now], is_new) {
-  const bytes = bytes_at(place), value = is_new ? now : old;
-  if (bytes) state.regions.get(bytes.region).set(from_base64(value), bytes.first);
-  else if (value === 'absent') state.values.delete(place);
-  else state.values.set(place, value);
+// Writes bytes in base64 into a region, but for those that are marked, and marks them.
+function put_bytes(region, marks, {first, last}, text) {
+  const begin = marks.indexOf(0, first);
+  if (begin < 0 || begin > last) return;
+  const letters = atob(text);
+  for (let i = begin; i <= last; i += 1) {
+    if (!marks[i]) region[i] = letters.charCodeAt(i - first);
+  }
+  marks.fill(1, first, last + 1);
 }
 
-// Moves a state forwards or back to another moment.
+// Writes the value of a place, unless one was written before: the places in `written` have theirs, as have marked bytes.
+function put(state, {places, marks}, place, value) {
+  if (places.has(place)) return;
+  places.add(place);
+  const bytes = bytes_at(place);
+  if (bytes) {
+    const region = state.regions.get(bytes.region);
+    if (!marks.has(bytes.region)) marks.set(bytes.region, new Uint8Array(region.length));
+    put_bytes(region, marks.get(bytes.region), bytes, value);
+  } else if (value === 'absent') {
+    state.values.delete(place);
+  } else {
+    state.values.set(place, value);
+  }
+}
+
+// Moves a state forwards or back to another moment. It goes from that moment's events to those of the moment before, so
+// that it writes each place once.
 function go_to(drawn, state, moment) {
-  const target = Math.max(drawn.from, Math.min(drawn.to, moment));
-  for (; state.moment < target; state.moment += 1) {
-    for (const change of drawn.steps[state.moment - drawn.from].changes) put(state, change, true);
+  const target = Math.max(drawn.from, Math.min(drawn.to, moment)), is_forward = target > state.moment;
+  const [low, high] = is_forward ? [state.moment, target] : [target, state.moment];
+  const steps_between = drawn.steps.slice(low - drawn.from, high - drawn.from), written = {places: new Set(), marks: new Map()};
+  for (const step of is_forward ? steps_between.reverse() : steps_between) {
+    for (const [place, old, now] of step.changes) put(state, written, place, is_forward ? now : old);
   }
-  for (; state.moment > target; state.moment -= 1) {
-    for (const change of drawn.steps[state.moment - 1 - drawn.from].changes) put(state, change, false);
-  }
+  state.moment = target;
   return state;
 }
 
@@ -193,56 +219,9 @@ const phase_of = (row, moment) => {
   return row.issued !== null && row.issued <= moment ? 'issued' : 'queued';
 };
 
-// Returns the rows that have not completed at a moment.
-const rows_alive = (drawn, moment) => drawn.rows.filter((row) => ['queued', 'issued'].includes(phase_of(row, moment)));
-
-// Returns the row before this one in its chain, or null. A linked timeout is no link of a chain.
-function linked_before(rows, row) {
-  const other = rows.get(row.row - 1), before = other && other.target !== null ? rows.get(other.target) : other;
-  return row.target === null && before && before.unit === row.unit ? before : null;
-}
-
-function queued_waits_for(drawn, rows, row, moment) {
-  const before = linked_before(rows, row);
-  const is_open = (other) => other.row < row.row && ['queued', 'issued'].includes(phase_of(other, moment));
-  if (row.target !== null) return `row ${row.target}, which it limits, to be issued`;
-  if (before && is_open(before)) return `row ${before.row}, to which it is linked, to complete`;
-  const others = drawn.rows.filter((other) => is_open(other) && other.unit !== row.unit);
-  if (row.flags & DRAIN && others.length) return `all earlier rows to complete: ${others.map((it) => it.row).join(', ')}`;
-  const drain = drawn.rows.find((other) => is_open(other) && other.flags & DRAIN && other.unit !== row.unit);
-  return drain ? `row ${drain.row}, which drains, to complete` : 'the kernel to issue it';
-}
-
-const object_of = (drawn, fd) => {
-  const name = drawn.descriptors[fd - 3];
-  return name === undefined ? null : drawn.objects.find((it) => it.name === name.split(':')[0]);
-};
-
-function transfer_waits_for(drawn, state, row, object) {
-  if (object && object.kind === 'pipe') {
-    const held = number_at(state, `put ${object.name}`) - number_at(state, `taken ${object.name}`);
-    if (row.op === READ && held === 0) return `bytes in pipe ${object.name}`;
-    if (row.op === WRITE && held >= object.capacity) return `room in pipe ${object.name}`;
-  }
-  if (object && object.kind === 'eventfd' && row.op === READ && shown(state, `event ${object.name}`) === '0') {
-    return `a write to eventfd ${object.name}`;
-  }
-  return 'the kernel to finish it';
-}
-
-// Returns what a row that has not completed waits for.
-function waits_for(drawn, rows, state, row) {
-  if (phase_of(row, state.moment) === 'queued') return queued_waits_for(drawn, rows, row, state.moment);
-  if (row.op === TIMEOUT || row.op === LINK_TIMEOUT) {
-    const counts = row.op === TIMEOUT && row.off !== '0';
-    const more = counts ? `, or ${BigInt(row.off) + BigInt(row.base) - BigInt(shown(state, 'counted'))} more completions` : '';
-    return `the clock to reach ${row.deadline}${more}`;
-  }
-  const object = object_of(drawn, row.fd);
-  if (row.op === POLL_ADD) return `an event of ${object ? object.name : `descriptor ${row.fd}`}`;
-  if (row.op === READ || row.op === WRITE) return transfer_waits_for(drawn, state, row, object);
-  return 'the kernel to finish it';
-}
+// Returns whether a row has been queued and has not completed.
+const is_alive = (row, moment) => ['queued', 'issued'].includes(phase_of(row, moment));
+const rows_alive = (drawn, moment) => drawn.rows.filter((row) => is_alive(row, moment));
 
 // ---- search
 

@@ -41,6 +41,12 @@ function keep_rows_in_view() {
 
 // ---- the moment
 
+// Returns the moment in the page's address, or null.
+function asked_moment() {
+  const found = location.hash.match(/^#(\d+)$/);
+  return found ? Number(found[1]) : null;
+}
+
 let hash_timer = null;
 function put_hash() {
   clearTimeout(hash_timer);
@@ -170,13 +176,17 @@ const KEYS = {
   '?': () => by_id('key').toggleAttribute('open'),
 };
 
+// The keys that scroll the state while it has the focus.
+const SCROLLING = ['ArrowUp', 'ArrowDown', 'PageUp', 'PageDown', 'Home', 'End'];
+
 function on_key(e) {
   const field = e.target.closest ? e.target.closest('input, select, textarea') : null;
   if (e.key === 'Escape') {
-    if (field) main.focus();
+    main.focus();
     return;
   }
   if (field && field.type !== 'checkbox') return;
+  if (e.target === by_id('state') && SCROLLING.includes(e.key)) return;
   if (!Object.prototype.hasOwnProperty.call(KEYS, e.key) || e.ctrlKey || e.metaKey || e.altKey) return;
   e.preventDefault();
   KEYS[e.key](e);
@@ -193,12 +203,13 @@ function under(e) {
   return {x, y, moment: view.left + (x - labels_width()) / view.column, lane: lane ? lane.key : null};
 }
 
+// The wheel zooms; sideways, or with Shift, it moves the picture, and over the labels it scrolls the rows.
 function on_wheel(e) {
-  const {x, moment} = under(e);
-  if (e.shiftKey || x < labels_width()) return;
+  const {x, moment} = under(e), is_sideways = e.shiftKey || Math.abs(e.deltaX) > Math.abs(e.deltaY);
+  if (x < labels_width() && !is_sideways) return;
   e.preventDefault();
-  if (Math.abs(e.deltaX) > Math.abs(e.deltaY)) {
-    view.left += e.deltaX / view.column;
+  if (is_sideways) {
+    view.left += (e.deltaX || e.deltaY) / view.column;
     keep_within();
     redraw();
   } else {
@@ -284,7 +295,9 @@ by_id('findings').addEventListener('click', (e) => {
 });
 by_id('state').addEventListener('click', (e) => {
   const button = e.target.closest('button.row');
-  if (button) pick(Math.max(from, rows.get(Number(button.dataset.row)).queued - 1), `row ${button.dataset.row}`);
+  if (!button) return;
+  pick(Math.max(from, rows.get(Number(button.dataset.row)).queued - 1), `row ${button.dataset.row}`);
+  main.focus();
 });
 main.addEventListener('scroll', () => {
   if (main.scrollTop === size.top) return;
@@ -297,5 +310,8 @@ new ResizeObserver(() => {
   keep_within();
   redraw();
 }).observe(main);
-window.addEventListener('hashchange', () => pick(Number(location.hash.slice(1))));
+window.addEventListener('hashchange', () => {
+  const moment = asked_moment();
+  if (moment !== null) pick(moment);
+});
 "##;

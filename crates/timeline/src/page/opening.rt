@@ -43,9 +43,8 @@ by_id('moment').max = to;
 view.is_found = new Set();
 
 function first_moment() {
-  const asked = location.hash.match(/^#(\d+)$/);
-  if (asked) return Number(asked[1]);
-  const first = findings.find((it) => it.fault) || findings[0];
+  const asked = asked_moment(), first = findings.find((it) => it.fault) || findings[0];
+  if (asked !== null) return asked;
   return first ? first.moment : to;
 }
 

@@ -44,13 +44,16 @@ function shape_of(step) {
   return step.word === 'issue' || step.word === 'tick' ? 'bar' : 'round';
 }
 
-function step_title(step) {
-  const lines = step.changes.slice(0, 12).map(([place, old, now]) => `  ${place} ${shortened(place, old)} -> ${shortened(place, now)}`);
-  return titled([`event ${step.index}: ${step.does}`, ...lines, ...(step.changes.length > 12 ? ['  ..'] : [])].join('\n'));
-}
+// Returns a value as the log prints it, cut if it is long. 28 letters of base64 are 21 bytes.
 function shortened(place, value) {
-  const text = bytes_at(place) ? hex_of(from_base64(value)) : value;
+  const text = bytes_at(place) ? hex_of(from_base64(value.slice(0, 28))) : value;
   return text.length > 36 ? `${text.slice(0, 36)}..` : text;
+}
+function step_title(step) {
+  if (step.title) return step.title;
+  const lines = step.changes.slice(0, 12).map(([place, old, now]) => `  ${place} ${shortened(place, old)} -> ${shortened(place, now)}`);
+  step.title = titled([`event ${step.index}: ${step.does}`, ...lines, ...(step.changes.length > 12 ? ['  ..'] : [])].join('\n'));
+  return step.title;
 }
 
 function mark(step, y) {
@@ -174,6 +177,12 @@ function bar(row, y) {
   return element('g', {class: 'bar', 'data-row': row.row}, out.join(''));
 }
 
+// Returns the row before this one in its chain, or null. A linked timeout is no link of a chain.
+function linked_before(row) {
+  const other = rows.get(row.row - 1), before = other && other.target !== null ? rows.get(other.target) : other;
+  return row.target === null && before && before.unit === row.unit ? before : null;
+}
+
 // Draws what connects rows: links of a chain, linked timeouts, and completions by another row's event.
 function ties(place, a, b) {
   const out = [], middle = (row) => {
@@ -186,7 +195,7 @@ function ties(place, a, b) {
     out.push(element('path', {class: `link ${kind}`, d: `M${round(x)} ${y}V${end - 11}H${round(z)}V${end}`}, titled(text)));
   };
   for (const {row} of place.lanes.slice(a, b + 3)) {
-    const before = linked_before(rows, row), target = row.target === null ? null : rows.get(row.target);
+    const before = linked_before(row), target = row.target === null ? null : rows.get(row.target);
     if (before) {
       const hard = before.flags & HARDLINK ? 'hard' : '', x = x_until(before.ended), on = row.issued === null ? row.ended : row.issued;
       tie(hard, before, row, x, Math.max(x, x_until(on)), `${hard} link from row ${before.row} to row ${row.row}`.trim());

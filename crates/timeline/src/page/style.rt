@@ -30,6 +30,7 @@ form { display: inline-flex; flex-wrap: wrap; gap: .3rem; align-items: center; }
 input, button, select { font: inherit; color: inherit; background: var(--band); border: 1px solid var(--faint); border-radius: 4px; padding: .1rem .5rem; max-width: 100%; }
 input[type=number] { width: 6rem; }
 input[type=search] { width: 20rem; }
+::placeholder { color: var(--faint); opacity: 1; }
 button[aria-pressed=true] { background: var(--fill); color: var(--on_fill); }
 #key { flex-basis: auto; }
 #key[open] { flex-basis: 100%; max-height: 40vh; overflow: auto; }

@@ -1,5 +1,4 @@
-use Rattle.std.proofs.Common.{◌≡◌, take}
-use Rattle.explanations.specs.ReportLists.{findings_in}
+use Rattle.explanations.proofs.Common.{◌≡◌, take, findings_in}
 use Rattle.explanations.proofs.reporting.reports_of.Given as goal
 
 abbrev pub invariant-loop-index : goal.invariant-loop-index

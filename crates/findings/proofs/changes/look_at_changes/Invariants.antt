@@ -1,7 +1,4 @@
-use Rattle.std.proofs.Common.{◌≡◌, ◌++◌, length}
-use Rattle.std.specs.List.{flat_map}
-use Rattle.machine.specs.Whole.{view}
-use Rattle.findings.specs.Records.{noted_by, of_change, after_notes, IsListed}
+use Rattle.findings.proofs.Common.{◌≡◌, ◌++◌, length, flat_map, view, noted_by, of_change, after_notes, IsListed}
 use Rattle.findings.proofs.changes.look_at_changes.Given as goal
 
 abbrev pub invariant-loop-place : goal.invariant-loop-place

@@ -1,6 +1,5 @@
-use Rattle.machine.specs.Whole.{view}
-use Rattle.findings.specs.Records.{noted_by}
-use Rattle.findings.proofs.Passing.{all_shown, all_followed}
+use Rattle.findings.proofs.Common.{view, noted_by}
+use Rattle.findings.proofs.Passing.{all_followed, all_shown}
 use Rattle.findings.proofs.changes.look_at_record.Goals as goal
 
 pub returns-clause-added : goal.returns-clause-added

@@ -1,6 +1,4 @@
-use Rattle.std.proofs.Common.{sym, subst}
-use Rattle.places.specs.Stretched.{kept_of}
-use Rattle.findings.specs.Records.{OfNoRow}
+use Rattle.findings.proofs.Common.{sym, subst, kept_of, OfNoRow}
 use Rattle.findings.proofs.Passing.{bytes_no_row}
 use Rattle.findings.proofs.changes.pass_over.Goals as goal
 

@@ -1,4 +1,4 @@
-use Rattle.findings.specs.Records.{OfNoRow}
+use Rattle.findings.proofs.Common.{OfNoRow}
 use Rattle.findings.proofs.changes.pass_over.Given as goal
 
 abbrev pub invariant-loop-run : goal.invariant-loop-run

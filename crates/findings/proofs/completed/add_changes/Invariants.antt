@@ -1,6 +1,4 @@
-use Rattle.std.proofs.Common.{◌≡◌, ◌++◌, length}
-use Rattle.std.specs.List.{flat_map}
-use Rattle.findings.specs.Records.{members_of, severs_chain, cancels_at}
+use Rattle.findings.proofs.Common.{◌≡◌, ◌++◌, length, flat_map, members_of, severs_chain, cancels_at}
 use Rattle.findings.proofs.completed.add_changes.Given as goal
 
 abbrev pub invariant-loop-change : goal.invariant-loop-change

@@ -1,4 +1,4 @@
-use Rattle.findings.specs.Records.{severs_chain, cancels_at}
+use Rattle.findings.proofs.Common.{severs_chain, cancels_at}
 use Rattle.findings.proofs.Passing.{all_members}
 use Rattle.findings.proofs.completed.completed_by.Goals as goal
 

@@ -1,6 +1,5 @@
-use Rattle.std.proofs.Common.{◌≤◌, length, sym, ◌∙◌, arith}
-use Rattle.findings.proofs.Draining.{drains_found, drains_end, drains_other}
-use Rattle.findings.proofs.Members.{none_after}
+use Rattle.findings.proofs.Common.{◌≤◌, length, sym, ◌∙◌, arith, slice_get_none}
+use Rattle.findings.proofs.Draining.{drains_end, drains_found, drains_other}
 use Rattle.findings.proofs.conflicts.drains.Goals as goal
 
 pub returns-then-has_drain_flag : goal.returns-then-has_drain_flag
@@ -13,7 +12,7 @@ returns-in_default c =
 
 pub returns-in_default-2 : goal.returns-in_default-2
 returns-in_default-2 c =
-    sym (drains_end _ c.args.unit c.loop-number.number c.row_at-first.ensures.formed.mostly.table.chained c.loop-number.invariant (none_after _ c.loop-number.number (sym c.in_default.ensures.row)))
+    sym (drains_end _ c.args.unit c.loop-number.number c.row_at-first.ensures.formed.mostly.table.chained c.loop-number.invariant (slice_get_none _ c.loop-number.number (sym c.in_default.ensures.row)))
 
 pub returns : goal.returns
 returns c =

@@ -1,6 +1,5 @@
-use Rattle.std.proofs.Common.{◌≤◌, length, sym, ◌∙◌, arith}
-use Rattle.findings.proofs.Barriers.{between_found, between_end, between_more}
-use Rattle.findings.proofs.Members.{none_after}
+use Rattle.findings.proofs.Common.{◌≤◌, length, sym, ◌∙◌, arith, slice_get_none}
+use Rattle.findings.proofs.Barriers.{between_end, between_found, between_more}
 use Rattle.findings.proofs.conflicts.is_after_barrier.Goals as goal
 
 pub loop-number-preserved : goal.loop-number-preserved
@@ -13,7 +12,7 @@ returns-then-is_between c =
 
 pub returns-in-None : goal.returns-in-None
 returns-in-None c =
-    sym (between_end _ c.args.row.now c.args.before.now c.loop-number.number c.row_at-first.ensures.formed.mostly.table.chained c.loop-number.invariant (none_after _ c.loop-number.number (sym c.in-None.ensures.row)))
+    sym (between_end _ c.args.row.now c.args.before.now c.loop-number.number c.row_at-first.ensures.formed.mostly.table.chained c.loop-number.invariant (slice_get_none _ c.loop-number.number (sym c.in-None.ensures.row)))
 
 pub returns : goal.returns
 returns c =

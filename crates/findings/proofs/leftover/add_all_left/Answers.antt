@@ -1,6 +1,5 @@
-use Rattle.std.proofs.Common.{◌≤◌, length, sym, arith}
+use Rattle.findings.proofs.Common.{◌≤◌, length, sym, arith, slice_get_none}
 use Rattle.findings.proofs.Left.{left_more, left_whole}
-use Rattle.findings.proofs.Members.{none_after}
 use Rattle.findings.proofs.leftover.add_all_left.Goals as goal
 
 pub loop-number-preserved : goal.loop-number-preserved
@@ -8,7 +7,7 @@ loop-number-preserved c =
     left_more _ c.loop-number.number _ _ _ _ c.loop-number.found.items c.add_left.new.found.items (sym c.in-Some.ensures.row) c.in_ok-add_left-in-Some.ensures c.loop-number.invariant
 
 pub returns-in-None : goal.returns-in-None
-returns-in-None c = left_whole _ c.loop-number.number _ _ _ c.loop-number.found.items (none_after _ c.loop-number.number (sym c.in-None.ensures.row)) c.loop-number.invariant
+returns-in-None c = left_whole _ c.loop-number.number _ _ _ c.loop-number.found.items (slice_get_none _ c.loop-number.number (sym c.in-None.ensures.row)) c.loop-number.invariant
 
 pub returns : goal.returns
 returns c =

@@ -1,6 +1,4 @@
-use Rattle.std.proofs.Common.{◌≡◌, ◌++◌, drop}
-use Rattle.std.specs.List.{flat_map, enumerate_from}
-use Rattle.findings.specs.Records.{of_left, all_left}
+use Rattle.findings.proofs.Common.{◌≡◌, ◌++◌, drop, flat_map, enumerate_from, of_left, all_left}
 use Rattle.findings.proofs.leftover.add_all_left.Given as goal
 
 abbrev pub invariant-loop-number : goal.invariant-loop-number

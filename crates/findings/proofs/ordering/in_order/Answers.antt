@@ -1,9 +1,7 @@
-use Rattle.std.proofs.lemmas.List.Filters.{dedup_is}
-use Rattle.std.proofs.lemmas.List.Kept.{Contains-dedup, Contains-from_dedup, IsStrictlySortedBy-dedup}
-use Rattle.std.proofs.lemmas.List.Sorted.{Contains-permutation, IsPermutation-sym}
+use Rattle.findings.proofs.Common.{dedup_is, Contains-dedup, Contains-from_dedup, IsStrictlySortedBy-dedup, Contains-permutation, IsPermutation-sym}
+use Rattle.findings.proofs.Same.{finding_same}
 use Rattle.finding_kinds.specs.contracts.finding.FindingOrd.TheImpl.Laws as ordered
 use Rattle.finding_kinds.specs.contracts.finding.FindingEq.TheImpl.Laws as compared
-use Rattle.findings.proofs.Same.{finding_same}
 use Rattle.findings.proofs.ordering.in_order.Goals as goal
 
 pub returns-clause-rises : goal.returns-clause-rises

@@ -1,16 +1,10 @@
-use Rattle.std.proofs.Common.{sym, ◌∙◌}
-use Rattle.finding_kinds.specs.declared.kind.Kind.TheVariants.{Ended}
-use Rattle.finding_kinds.specs.declared.kind.EndedKind.{EndedKind}
-use Rattle.finding_kinds.specs.declared.kind.TheConstants.EndedKind.{ALL as ended_kinds}
-use Rattle.findings.specs.Endings.{ended_test}
-use Rattle.findings.specs.Records.{noted}
-use Rattle.findings.proofs.Groups.{group_more}
-use Rattle.findings.proofs.Plain.{ended_none}
+use Rattle.findings.proofs.Common.{Ended, EndedKind, ended_kinds, sym, ◌∙◌, ended_test, noted}
+use Rattle.findings.proofs.{Groups.group_more, Plain.ended_none}
 use Rattle.findings.proofs.record.add_of_ended.Goals as goal
 
 pub loop-kind-preserved : goal.loop-kind-preserved
 loop-kind-preserved c =
-    group_more Ended (λ (kind : EndedKind). ended_test kind (noted c.args.at.setup.now c.args.completed.now.severing.items c.args.completed.now.canceled.items c.args.at.before c.args.at.event c.args.at.state.now c.args.number c.args.row.now) c.args.before.now c.args.at.state.now.table c.args.number c.args.row.now) c.args.at.moment c.args.number ended_kinds c.loop-kind.kind-index _ c.ended_test.result _ c.loop-kind.found.items _ c.loop-kind-test.true c.ended_test.ensures c.loop-kind.invariant c.in_ok-add_if.ensures
+    group_more Ended (λ (kind : EndedKind). ended_test kind (noted c.args.at.setup.now c.args.completed.now.severing.items c.args.completed.now.canceled.items c.args.at.before c.args.at.event c.args.at.state.now c.args.number c.args.row.now) c.args.before.now c.args.at.state.now.table c.args.number c.args.row.now) c.args.at.moment c.args.number ended_kinds c.loop-kind.kind-index _ c.ended_test-test.result _ c.loop-kind.found.items _ c.loop-kind-test.true c.ended_test-test.ensures c.loop-kind.invariant c.in_ok-add_if.ensures
 
 pub returns-then-not-ends_notably : goal.returns-then-not-ends_notably
 returns-then-not-ends_notably c =

@@ -1,9 +1,4 @@
-use Rattle.std.proofs.Common.{◌≡◌, ◌++◌, take}
-use Rattle.finding_kinds.specs.declared.kind.Kind.TheVariants.{Ended}
-use Rattle.finding_kinds.specs.declared.kind.EndedKind.{EndedKind}
-use Rattle.finding_kinds.specs.declared.kind.TheConstants.EndedKind.{ALL as ended_kinds}
-use Rattle.findings.specs.Endings.{ended_test}
-use Rattle.findings.specs.Records.{noted, of_group}
+use Rattle.findings.proofs.Common.{◌≡◌, ◌++◌, take, Ended, EndedKind, ended_kinds, ended_test, noted, of_group}
 use Rattle.findings.proofs.record.add_of_ended.Given as goal
 
 abbrev pub invariant-loop-kind : goal.invariant-loop-kind

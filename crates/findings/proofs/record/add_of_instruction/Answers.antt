@@ -1,7 +1,5 @@
+use Rattle.findings.proofs.Common.{StepKind, step_kinds, is_of_step}
 use Rattle.finding_kinds.specs.declared.kind.Kind.TheVariants.{Step}
-use Rattle.finding_kinds.specs.declared.kind.StepKind.{StepKind}
-use Rattle.finding_kinds.specs.declared.kind.TheConstants.StepKind.{ALL as step_kinds}
-use Rattle.findings.specs.Conditions.{is_of_step}
 use Rattle.findings.proofs.Groups.{group_more}
 use Rattle.findings.proofs.record.add_of_instruction.Goals as goal
 

@@ -1,9 +1,5 @@
-use Rattle.std.proofs.Common.{◌≡◌, ◌++◌, take}
+use Rattle.findings.proofs.Common.{◌≡◌, ◌++◌, take, StepKind, step_kinds, is_of_step, of_group}
 use Rattle.finding_kinds.specs.declared.kind.Kind.TheVariants.{Step}
-use Rattle.finding_kinds.specs.declared.kind.StepKind.{StepKind}
-use Rattle.finding_kinds.specs.declared.kind.TheConstants.StepKind.{ALL as step_kinds}
-use Rattle.findings.specs.Conditions.{is_of_step}
-use Rattle.findings.specs.Records.{of_group}
 use Rattle.findings.proofs.record.add_of_instruction.Given as goal
 
 abbrev pub invariant-loop-kind : goal.invariant-loop-kind

@@ -1,6 +1,4 @@
-use Rattle.std.proofs.Common.{◌≡◌, ◌++◌, take}
-use Rattle.std.specs.List.{flat_map}
-use Rattle.findings.specs.Records.{of_number}
+use Rattle.findings.proofs.Common.{◌≡◌, ◌++◌, take, flat_map, of_number}
 use Rattle.findings.proofs.record.add_of_numbers.Given as goal
 
 abbrev pub invariant-loop-number : goal.invariant-loop-number

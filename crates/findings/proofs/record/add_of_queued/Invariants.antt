@@ -1,9 +1,4 @@
-use Rattle.std.proofs.Common.{◌≡◌, ◌++◌, take}
-use Rattle.finding_kinds.specs.declared.kind.Kind.TheVariants.{Queued}
-use Rattle.finding_kinds.specs.declared.kind.QueuedKind.{QueuedKind}
-use Rattle.finding_kinds.specs.declared.kind.TheConstants.QueuedKind.{ALL as queued_kinds}
-use Rattle.findings.specs.Endings.{queued_test}
-use Rattle.findings.specs.Records.{of_group}
+use Rattle.findings.proofs.Common.{◌≡◌, ◌++◌, take, Queued, QueuedKind, queued_kinds, queued_test, of_group}
 use Rattle.findings.proofs.record.add_of_queued.Given as goal
 
 abbrev pub invariant-loop-kind : goal.invariant-loop-kind

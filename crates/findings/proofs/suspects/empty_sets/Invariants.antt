@@ -1,5 +1,4 @@
-use Rattle.std.proofs.Common.{◌≡◌, ℕ, false, length}
-use Rattle.findings.specs.Suspects.{is_marked}
+use Rattle.findings.proofs.Common.{◌≡◌, ℕ, false, length, is_marked}
 use Rattle.findings.proofs.suspects.empty_sets.Given as goal
 
 abbrev pub invariant-loop-object : goal.invariant-loop-object

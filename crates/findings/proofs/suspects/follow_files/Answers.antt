@@ -1,4 +1,4 @@
-use Rattle.std.proofs.Common.{sym}
+use Rattle.findings.proofs.Common.{sym}
 use Rattle.findings.proofs.Suspecting.{follows_nothing}
 use Rattle.findings.proofs.suspects.follow_files.Goals as goal
 

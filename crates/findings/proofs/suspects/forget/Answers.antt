@@ -1,5 +1,4 @@
-use Rattle.std.proofs.Common.{◌*◌, ◌<◌, ℕ, length, sym, subst}
-use Rattle.bit_sets.proofs.Differences.{has_below}
+use Rattle.findings.proofs.Common.{◌*◌, ◌<◌, ℕ, length, sym, subst, has_below}
 use Rattle.findings.proofs.Marks.{members, members_less, range_less, range_none}
 use Rattle.findings.proofs.suspects.forget.Goals as goal
 

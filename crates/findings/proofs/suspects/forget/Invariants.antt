@@ -1,4 +1,4 @@
-use Rattle.std.proofs.Common.{◌*◌, length}
+use Rattle.findings.proofs.Common.{◌*◌, length}
 use Rattle.findings.proofs.Marks.{AgreeOutside, members}
 use Rattle.findings.proofs.suspects.forget.Given as goal
 

@@ -1,7 +1,4 @@
-use Rattle.std.proofs.Common.{◌<◌, length, sym, ap, ◌∙◌, arith}
-use Rattle.std.specs.Prelude.{◌&&◌, ◌||◌}
-use Rattle.findings.specs.Durability.{is_volatile_at}
-use Rattle.findings.specs.Suspects.{is_marked, is_fsync_of}
+use Rattle.findings.proofs.Common.{◌<◌, length, ◌&&◌, ◌||◌, sym, ap, ◌∙◌, arith, is_volatile_at, is_marked, is_fsync_of}
 use Rattle.findings.proofs.Marks.{marks_added}
 use Rattle.findings.proofs.suspects.suspect_failed.Goals as goal
 

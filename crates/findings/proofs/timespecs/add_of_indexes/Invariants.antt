@@ -1,7 +1,4 @@
-use Rattle.std.proofs.Common.{◌≡◌, ◌++◌, drop, take}
-use Rattle.std.specs.List.{flat_map}
-use Rattle.ring_words.specs.Rings.{sub_list}
-use Rattle.findings.specs.Timespecs.{of_index}
+use Rattle.findings.proofs.Common.{◌≡◌, ◌++◌, drop, take, flat_map, sub_list, of_index}
 use Rattle.findings.proofs.timespecs.add_of_indexes.Given as goal
 
 abbrev pub invariant-loop-place : goal.invariant-loop-place

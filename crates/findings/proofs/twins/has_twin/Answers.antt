@@ -1,5 +1,5 @@
-use Rattle.std.proofs.Common.{sym, ◌∙◌, arith}
-use Rattle.findings.proofs.Alike.{twins_near, twin_on, twin_found, twin_past, twin_none}
+use Rattle.findings.proofs.Common.{sym, ◌∙◌, arith}
+use Rattle.findings.proofs.Alike.{twin_found, twin_none, twin_on, twin_past, twins_near}
 use Rattle.findings.proofs.twins.has_twin.Goals as goal
 
 pub loop-other-init : goal.loop-other-init

@@ -1,4 +1,4 @@
-use Rattle.std.proofs.Common.{◌-◌, ◌+◌, ◌≤◌}
+use Rattle.findings.proofs.Common.{◌-◌, ◌+◌, ◌≤◌}
 use Rattle.findings.proofs.Alike.{NoTwin}
 use Rattle.findings.proofs.twins.has_twin.Given as goal
 

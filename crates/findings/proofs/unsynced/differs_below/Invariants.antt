@@ -1,7 +1,4 @@
-use Rattle.std.proofs.Common.{◌≡◌, ◌<◌, ℕ, false}
-use Rattle.places.specs.declared.place.Place.TheVariants.{FileByte, DurableByte}
-use Rattle.machine.specs.Whole.{view}
-use Rattle.finding_kinds.specs.Values.{byte_in, differ}
+use Rattle.findings.proofs.Common.{◌≡◌, ◌<◌, ℕ, false, FileByte, DurableByte, view, byte_in, differ}
 use Rattle.findings.proofs.unsynced.differs_below.Given as goal
 
 abbrev pub invariant-loop-at : goal.invariant-loop-at

@@ -1,10 +1,5 @@
-use Rattle.std.proofs.Common.{◌≡◌, ◌≤◌, Bool, length, sym, ap, ◌∙◌, arith}
-use Rattle.std.specs.Prelude.{Option, Some, false}
-use Rattle.std.specs.Option.{option_map_or}
-use Rattle.entries.specs.declared.row.Row.{Row}
-use Rattle.findings.specs.AtEnd.{syncs}
+use Rattle.findings.proofs.Common.{◌≡◌, ◌≤◌, Bool, length, Option, Some, false, option_map_or, Row, sym, ap, ◌∙◌, arith, slice_get_none, syncs}
 use Rattle.findings.proofs.Looking.{any_here, any_none, none_more}
-use Rattle.findings.proofs.Members.{none_after}
 use Rattle.findings.proofs.unsynced.has_fsync.Goals as goal
 
 passing : (test : Row → Bool) (o : Option Row) (row : Row) (b : Bool) → Some row ≡ o → test row ≡ b → option_map_or test o false ≡ b
@@ -21,7 +16,7 @@ returns-then-syncs c =
 
 pub returns-in-None : goal.returns-in-None
 returns-in-None c =
-    sym (any_none (syncs c.args.setup.now c.args.object) _ c.loop-number.number c.loop-number.invariant (none_after _ c.loop-number.number (sym c.in-None.ensures.row)))
+    sym (any_none (syncs c.args.setup.now c.args.object) _ c.loop-number.number c.loop-number.invariant (slice_get_none _ c.loop-number.number (sym c.in-None.ensures.row)))
 
 pub returns : goal.returns
 returns c =

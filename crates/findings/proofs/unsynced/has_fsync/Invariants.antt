@@ -1,4 +1,4 @@
-use Rattle.findings.specs.AtEnd.{syncs}
+use Rattle.findings.proofs.Common.{syncs}
 use Rattle.findings.proofs.Looking.{NonePasses}
 use Rattle.findings.proofs.unsynced.has_fsync.Given as goal
 

@@ -1,5 +1,5 @@
-use Rattle.std.proofs.Common.{sym}
-use Rattle.findings.proofs.Durability.{is_file, no_length, no_durable_length, few_bytes, lengths_differ, bytes_decide}
+use Rattle.findings.proofs.Common.{sym}
+use Rattle.findings.proofs.Durability.{bytes_decide, few_bytes, is_file, lengths_differ, no_durable_length, no_length}
 use Rattle.findings.proofs.unsynced.has_unsynced.Goals as goal
 
 pub returns-in_default : goal.returns-in_default

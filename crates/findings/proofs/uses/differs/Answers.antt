@@ -1,9 +1,4 @@
-use Rattle.std.proofs.Common.{◌≡◌, Some, ap, ◌∙◌}
-use Rattle.std.specs.Prelude.{not}
-use Rattle.std.proofs.lemmas.Bool.Decides.{same_from_decides}
-use Rattle.places.specs.declared.value.Value.TheVariants.{Entry}
-use Rattle.places.specs.Sameness.{is_same}
-use Rattle.places.proofs.SameValue.{same_decides}
+use Rattle.findings.proofs.Common.{◌≡◌, Some, not, Entry, is_same, ap, ◌∙◌, same_from_decides, same_decides}
 use Rattle.findings.proofs.uses.differs.Goals as goal
 
 pub returns : goal.returns

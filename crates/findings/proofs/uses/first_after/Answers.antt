@@ -1,9 +1,5 @@
-use Rattle.std.proofs.Common.{◌≤◌, true, false, length, drop, sym, ◌∙◌, arith}
-use Rattle.std.proofs.lemmas.List.{length-drop}
-use Rattle.ring_words.specs.Rings.{sub_list}
-use Rattle.findings.specs.Uses.{is_sought}
-use Rattle.findings.proofs.Looking.{none_more, any_here, any_none}
-use Rattle.findings.proofs.Waiting.{looked_at}
+use Rattle.findings.proofs.Common.{◌≤◌, true, false, length, drop, sub_list, sym, ◌∙◌, arith, length-drop, is_sought}
+use Rattle.findings.proofs.{Looking.any_here, Looking.any_none, Looking.none_more, Waiting.looked_at}
 use Rattle.findings.proofs.uses.first_after.Goals as goal
 
 pub returns-then-is_sought : goal.returns-then-is_sought

@@ -1,6 +1,4 @@
-use Rattle.std.proofs.Common.{drop}
-use Rattle.ring_words.specs.Rings.{sub_list}
-use Rattle.findings.specs.Uses.{is_sought}
+use Rattle.findings.proofs.Common.{drop, sub_list, is_sought}
 use Rattle.findings.proofs.Looking.{NonePasses}
 use Rattle.findings.proofs.uses.first_after.Given as goal
 

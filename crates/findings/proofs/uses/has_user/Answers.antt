@@ -1,7 +1,5 @@
-use Rattle.std.proofs.Common.{sym, ◌∙◌}
-use Rattle.findings.specs.Uses.{is_user}
-use Rattle.findings.proofs.Looking.{any_here}
-use Rattle.findings.proofs.Unfinished.{none_on, none_further, user_open}
+use Rattle.findings.proofs.Common.{sym, ◌∙◌, is_user}
+use Rattle.findings.proofs.{Looking.any_here, Unfinished.none_further, Unfinished.none_on, Unfinished.user_open}
 use Rattle.findings.proofs.uses.has_user.Goals as goal
 
 pub loop-number-preserved : goal.loop-number-preserved

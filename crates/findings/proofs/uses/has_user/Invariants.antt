@@ -1,5 +1,4 @@
-use Rattle.std.proofs.Common.{◌-◌}
-use Rattle.findings.specs.Uses.{is_user}
+use Rattle.findings.proofs.Common.{◌-◌, is_user}
 use Rattle.findings.proofs.Looking.{NonePasses}
 use Rattle.findings.proofs.uses.has_user.Given as goal
 

@@ -1,4 +1,4 @@
-use Rattle.std.proofs.Common.{sym}
+use Rattle.findings.proofs.Common.{sym}
 use Rattle.findings.proofs.Judging.{between_is, between_none}
 use Rattle.findings.proofs.verdicts.has_between.Goals as goal
 

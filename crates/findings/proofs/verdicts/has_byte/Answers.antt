@@ -1,4 +1,4 @@
-use Rattle.std.proofs.lemmas.Option.{slice_get_past}
+use Rattle.findings.proofs.Common.{slice_get_past}
 use Rattle.findings.proofs.Judging.{byte_in_none}
 use Rattle.findings.proofs.verdicts.has_byte.Goals as goal
 

@@ -1,4 +1,4 @@
-use Rattle.std.proofs.Common.{inr}
+use Rattle.findings.proofs.Common.{inr}
 use Rattle.findings.proofs.verdicts.judge.Goals as goal
 
 pub returns : goal.returns

@@ -1,7 +1,4 @@
-use Rattle.std.proofs.Common.{◌<◌, length, arith}
-use Rattle.findings.specs.Durability.{has_byte_of}
-use Rattle.findings.specs.Records.{judged}
-use Rattle.findings.specs.Suspects.{is_marked}
+use Rattle.findings.proofs.Common.{◌<◌, length, arith, has_byte_of, judged, is_marked}
 use Rattle.findings.proofs.Lasting.{mapped_step}
 use Rattle.findings.proofs.verdicts.judge_all.Goals as goal
 

@@ -1,7 +1,4 @@
-use Rattle.std.proofs.Common.{◌≡◌, ◌++◌, take, drop, map}
-use Rattle.findings.specs.Durability.{has_byte_of}
-use Rattle.findings.specs.Records.{judged}
-use Rattle.findings.specs.Suspects.{is_marked}
+use Rattle.findings.proofs.Common.{◌≡◌, ◌++◌, take, drop, map, has_byte_of, judged, is_marked}
 use Rattle.findings.proofs.verdicts.judge_all.Given as goal
 
 abbrev pub invariant-loop-finding : goal.invariant-loop-finding

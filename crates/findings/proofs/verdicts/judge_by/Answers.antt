@@ -1,7 +1,4 @@
-use Rattle.std.proofs.Common.{ℕ, List, map, ap, ◌∙◌, arith}
-use Rattle.findings.specs.Durability.{has_byte_of}
-use Rattle.findings.specs.Records.{judged}
-use Rattle.findings.specs.Suspects.{is_marked}
+use Rattle.findings.proofs.Common.{ℕ, List, map, ap, ◌∙◌, arith, has_byte_of, judged, is_marked}
 use Rattle.findings.proofs.Lasting.{mapped_back}
 use Rattle.findings.proofs.verdicts.judge_by.Goals as goal
 

@@ -1,4 +1,4 @@
-use Rattle.findings.specs.Durability.{is_volatile_at}
+use Rattle.findings.proofs.Common.{is_volatile_at}
 use Rattle.findings.proofs.Marks.{marked_more}
 use Rattle.findings.proofs.verdicts.volatile_sets.Goals as goal
 

@@ -1,6 +1,4 @@
-use Rattle.std.proofs.Common.{◌≡◌, ◌<◌, ℕ, length}
-use Rattle.findings.specs.Durability.{is_volatile_at}
-use Rattle.findings.specs.Suspects.{is_marked}
+use Rattle.findings.proofs.Common.{◌≡◌, ◌<◌, ℕ, length, is_volatile_at, is_marked}
 use Rattle.findings.proofs.verdicts.volatile_sets.Given as goal
 
 abbrev pub invariant-loop-object : goal.invariant-loop-object

@@ -1,6 +1,4 @@
-use Rattle.std.proofs.Common.{◌≡◌, ◌++◌, take}
-use Rattle.std.specs.List.{flat_map}
-use Rattle.findings.specs.Watched.{of_lasting}
+use Rattle.findings.proofs.Common.{◌≡◌, ◌++◌, take, flat_map, of_lasting}
 use Rattle.findings.proofs.watching.add_all_lasting.Given as goal
 
 abbrev pub invariant-loop-watch : goal.invariant-loop-watch

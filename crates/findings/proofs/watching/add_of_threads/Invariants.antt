@@ -1,5 +1,4 @@
-use Rattle.std.proofs.Common.{◌≡◌, ◌++◌, map}
-use Rattle.findings.specs.Watched.{fresh, numbers_below}
+use Rattle.findings.proofs.Common.{◌≡◌, ◌++◌, map, fresh, numbers_below}
 use Rattle.findings.proofs.watching.add_of_threads.Given as goal
 
 abbrev pub invariant-loop-thread : goal.invariant-loop-thread

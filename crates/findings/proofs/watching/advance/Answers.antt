@@ -1,6 +1,5 @@
-use Rattle.std.proofs.Common.{◌<◌, length, arith}
-use Rattle.findings.specs.Watched.{advanced}
-use Rattle.findings.proofs.Lasting.{mapped_step, mapped_right}
+use Rattle.findings.proofs.Common.{◌<◌, length, arith, advanced}
+use Rattle.findings.proofs.Lasting.{mapped_right, mapped_step}
 use Rattle.findings.proofs.watching.advance.Goals as goal
 
 pub loop-watch-preserved : goal.loop-watch-preserved

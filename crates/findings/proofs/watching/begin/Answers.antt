@@ -1,5 +1,4 @@
-use Rattle.std.proofs.Common.{◌<◌, length, arith}
-use Rattle.findings.specs.Watched.{advanced}
+use Rattle.findings.proofs.Common.{◌<◌, length, arith, advanced}
 use Rattle.findings.proofs.Lasting.{mapped_step}
 use Rattle.findings.proofs.watching.begin.Goals as goal
 

@@ -1,5 +1,4 @@
-use Rattle.std.proofs.Common.{◌≡◌, ◌++◌, take, drop, map}
-use Rattle.findings.specs.Watched.{advanced}
+use Rattle.findings.proofs.Common.{◌≡◌, ◌++◌, take, drop, map, advanced}
 use Rattle.findings.proofs.watching.begin.Given as goal
 
 abbrev pub invariant-loop-watch : goal.invariant-loop-watch

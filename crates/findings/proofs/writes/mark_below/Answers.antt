@@ -1,7 +1,5 @@
-use Rattle.std.proofs.Common.{◌≡◌, ℕ, subst, arith}
-use Rattle.std.specs.Prelude.{nat_lt, ◌&&◌, ◌||◌}
-use Rattle.bit_sets.specs.Sets.{has}
-use Rattle.findings.proofs.Marks.{is_volatile_byte, added_none, added_more}
+use Rattle.findings.proofs.Common.{◌≡◌, ℕ, nat_lt, ◌&&◌, ◌||◌, has, subst, arith}
+use Rattle.findings.proofs.Marks.{added_more, added_none, is_volatile_byte}
 use Rattle.findings.proofs.writes.mark_below.Goals as goal
 
 pub loop-at-init : goal.loop-at-init

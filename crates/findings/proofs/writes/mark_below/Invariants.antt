@@ -1,6 +1,4 @@
-use Rattle.std.proofs.Common.{◌≡◌, ◌*◌, ◌≤◌, ℕ, length}
-use Rattle.std.specs.Prelude.{nat_lt, ◌&&◌, ◌||◌}
-use Rattle.bit_sets.specs.Sets.{has}
+use Rattle.findings.proofs.Common.{◌≡◌, ◌*◌, ◌≤◌, ℕ, length, nat_lt, ◌&&◌, ◌||◌, has}
 use Rattle.findings.proofs.Marks.{is_volatile_byte}
 use Rattle.findings.proofs.writes.mark_below.Given as goal
 

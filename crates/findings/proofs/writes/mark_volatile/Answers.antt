@@ -1,9 +1,5 @@
-use Rattle.std.proofs.Common.{sym, ap, ◌∙◌}
-use Rattle.std.proofs.lemmas.Result.{on_ok_weaker}
-use Rattle.std.specs.Prelude.{◌||◌}
-use Rattle.bit_sets.specs.Sets.{has}
-use Rattle.findings.proofs.Durability.{is_file, few_bytes, volatile_none, volatile_no_durable, volatile_seen}
-use Rattle.findings.proofs.Marks.{marks_same}
+use Rattle.findings.proofs.Common.{◌||◌, has, sym, ap, ◌∙◌, on_ok_weaker}
+use Rattle.findings.proofs.{Durability.few_bytes, Durability.is_file, Durability.volatile_no_durable, Durability.volatile_none, Durability.volatile_seen, Marks.marks_same}
 use Rattle.findings.proofs.writes.mark_volatile.Goals as goal
 
 pub mark_below-requires : goal.mark_below-requires

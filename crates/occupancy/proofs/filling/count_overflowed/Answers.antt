@@ -1,7 +1,5 @@
-use Rattle.std.proofs.Common.{◌≡◌, arith, rules, true, false}
-use Rattle.std.specs.Prelude.{is_some}
-use Rattle.places.specs.declared.value.Value.TheVariants.{Completed}
-use Rattle.occupancy.proofs.Counting.{within_list, beyond_list, few_kept}
+use Rattle.occupancy.proofs.Common.{◌≡◌, true, false, is_some, Completed, arith, rules}
+use Rattle.occupancy.proofs.Counting.{beyond_list, few_kept, within_list}
 use Rattle.occupancy.proofs.filling.count_overflowed.Goals as goal
 
 pub overflow_add-count : goal.overflow_add-count

@@ -1,4 +1,4 @@
-use Rattle.std.proofs.Common.{◌≤◌, ◌-◌, length}
+use Rattle.occupancy.proofs.Common.{◌≤◌, ◌-◌, length}
 use Rattle.occupancy.proofs.filling.count_overflowed.Given as goal
 
 abbrev pub invariant-items : goal.invariant-items

@@ -1,27 +1,14 @@
-use Rattle.std.proofs.Common.{◌≡◌, arith, sym, ap, ◌∙◌, ◌++◌, ◌∷◌, []}
-use Rattle.std.specs.Prelude.{Some, slice_get}
-use Rattle.std.proofs.lemmas.Option.{slice_get_within}
-use Rattle.occupancy.proofs.Counting.{take_next}
+use Rattle.occupancy.proofs.Common.{◌≤◌, ◌++◌, ◌∷◌, [], length, arith, sym, ap, ◌∙◌, take_all, take_more, slice_get_none}
 use Rattle.occupancy.proofs.following.rows_of.Goals as goal
 
-pub overflow_add-number : goal.overflow_add-number
-overflow_add-number c =
-    let few = c.row_at-next.ensures.formed.mostly.table.few in
-    let h = c.table.invariant.within in
-    omega (arith, few, h)
+pub loop-number-preserved : goal.loop-number-preserved
+loop-number-preserved c =
+    c.in_ok-push-in-Some.ensures.items ∙ ap (λ xs. xs ++ c.in-Some.row ∷ []) c.loop-number.invariant ∙ sym (take_more c.args.state.now.table c.loop-number.number c.in-Some.row (sym c.in-Some.ensures.row))
 
-pub table-smaller : goal.table-smaller
-table-smaller c =
-    let there : slice_get c.args.state.now.table c.table.number ≡ Some c.in-Some.row = sym c.table.invariant.next ∙ c.in-Some.is in
-    let within = slice_get_within c.args.state.now.table c.table.number c.in-Some.row there in
-    omega (arith, within)
+pub returns-in-None : goal.returns-in-None
+returns-in-None c = c.loop-number.invariant ∙ take_all c.loop-number.number c.args.state.now.table (slice_get_none _ c.loop-number.number (sym c.in-None.ensures.row))
 
-pub table-preserved : goal.table-preserved
-table-preserved c =
-    let there : slice_get c.args.state.now.table c.table.number ≡ Some c.in-Some.row = sym c.table.invariant.next ∙ c.in-Some.is in
-    let within = slice_get_within c.args.state.now.table c.table.number c.in-Some.row there in
-    record {
-      items = c.in_ok-push.ensures.items ∙ ap (λ xs. xs ++ c.in-Some.row ∷ []) c.table.invariant.items ∙ sym (take_next c.args.state.now.table c.table.number c.in-Some.row there);
-      next = c.row_at-next-in-Some.ensures.value;
-      within = omega (arith, within);
-    }
+pub returns : goal.returns
+returns c =
+    let l : length c.args.state.now.table ≤ c.loop-number.number = omega (arith, c.row-first.ensures.formed.mostly.table.few) in
+    c.loop-number.invariant ∙ take_all c.loop-number.number c.args.state.now.table l

@@ -1,9 +1,5 @@
-use Rattle.std.proofs.Common.{◌≡◌, length, arith, ◌∙◌, rules, true}
-use Rattle.std.specs.Prelude.{is_some}
-use Rattle.places.specs.declared.value.Value.TheVariants.{Requested}
-use Rattle.occupancy.specs.Stamping.{new_stamps}
-use Rattle.occupancy.proofs.Counting.{within_list}
-use Rattle.occupancy.proofs.Noting.{added_more}
+use Rattle.occupancy.proofs.Common.{◌≡◌, length, true, is_some, Requested, arith, ◌∙◌, rules, new_stamps}
+use Rattle.occupancy.proofs.{Counting.within_list, Noting.added_more}
 use Rattle.occupancy.proofs.stamps.add_rows.Goals as goal
 
 pub loop-row-preserved : goal.loop-row-preserved

@@ -1,6 +1,4 @@
-use Rattle.std.proofs.Common.{◌≡◌, ◌≤◌, ◌-◌, ◌++◌, length}
-use Rattle.std.specs.Prelude.{replicate}
-use Rattle.occupancy.specs.Stamping.{new_stamps}
+use Rattle.occupancy.proofs.Common.{◌≡◌, ◌≤◌, ◌-◌, ◌++◌, length, replicate, new_stamps}
 use Rattle.occupancy.proofs.stamps.add_rows.Given as goal
 
 abbrev pub invariant-loop-row : goal.invariant-loop-row

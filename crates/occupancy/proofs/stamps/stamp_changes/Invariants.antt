@@ -1,5 +1,4 @@
-use Rattle.std.proofs.Common.{◌≡◌, length}
-use Rattle.occupancy.specs.Stamping.{stamp_changes}
+use Rattle.occupancy.proofs.Common.{◌≡◌, length, stamp_changes}
 use Rattle.occupancy.proofs.stamps.stamp_changes.Given as goal
 
 abbrev pub invariant-loop-change : goal.invariant-loop-change

@@ -1,8 +1,5 @@
-use Rattle.std.proofs.Common.{◌≡◌, ◌<◌, length, arith, sym, ap, ◌∙◌}
-use Rattle.std.specs.Prelude.{Some, slice_get}
-use Rattle.std.proofs.lemmas.Option.{slice_get_within}
-use Rattle.occupancy.proofs.Counting.{requested_is}
-use Rattle.occupancy.proofs.Noting.{stamp_row_set}
+use Rattle.occupancy.proofs.Common.{◌≡◌, ◌<◌, length, Some, slice_get, arith, sym, ap, ◌∙◌, slice_get_within}
+use Rattle.occupancy.proofs.{Counting.requested_is, Noting.stamp_row_set}
 use Rattle.occupancy.proofs.stamps.stamp_row.Goals as goal
 
 pub returns-in-Some-Requested-clause-value : goal.returns-in-Some-Requested-clause-value

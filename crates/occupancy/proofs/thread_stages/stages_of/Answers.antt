@@ -1,7 +1,5 @@
-use Rattle.std.proofs.Common.{ap, sym, ◌∙◌, ◌++◌, ◌∷◌, [], add-one}
-use Rattle.machine.specs.Threads.{ThreadState}
-use Rattle.occupancy.proofs.Counting.{map_next, map_ended}
-use Rattle.occupancy.proofs.thread_stages.stages_of.Goals.{in-Some+in_ok-push, in_default}
+use Rattle.occupancy.proofs.Common.{◌++◌, ◌∷◌, [], ThreadState, ap, sym, ◌∙◌, add-one}
+use Rattle.occupancy.proofs.{Counting.map_ended, Counting.map_next, thread_stages.stages_of.Goals.in-Some+in_ok-push, thread_stages.stages_of.Goals.in_default}
 use Rattle.occupancy.proofs.thread_stages.stages_of.Goals as goal
 
 pub loop-thread-preserved : goal.loop-thread-preserved

@@ -1,4 +1,4 @@
-use Rattle.std.proofs.Common.{◌≡◌, take, map}
+use Rattle.occupancy.proofs.Common.{◌≡◌, take, map}
 use Rattle.occupancy.proofs.thread_stages.stages_of.Given as goal
 
 abbrev pub invariant-loop-thread : goal.invariant-loop-thread

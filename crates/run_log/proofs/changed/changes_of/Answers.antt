@@ -1,6 +1,4 @@
-use Rattle.std.proofs.Common.{rules}
-use Rattle.std.proofs.lemmas.List.Sorted.{IsNonDecreasingBy-from_sort_by_key}
-use Rattle.run_log.specs.Listings.{rank}
+use Rattle.run_log.proofs.Common.{rules, IsNonDecreasingBy-from_sort_by_key, rank}
 use Rattle.run_log.proofs.changed.changes_of.Goals as goal
 
 pub returns-clause-listing : goal.returns-clause-listing

@@ -1,6 +1,4 @@
-use Rattle.std.proofs.Common.{◌≡◌, ◌++◌, length, map}
-use Rattle.machine.specs.Whole.{view}
-use Rattle.run_log.specs.Listings.{changed_to}
+use Rattle.run_log.proofs.Common.{◌≡◌, ◌++◌, length, map, view, changed_to}
 use Rattle.run_log.proofs.changed.gathered.Given as goal
 
 abbrev pub invariant-loop-change : goal.invariant-loop-change

@@ -1,4 +1,4 @@
-use Rattle.std.proofs.Common.{◌≡◌, false, arith, sym, ◌∙◌, rules}
+use Rattle.run_log.proofs.Common.{◌≡◌, false, arith, sym, ◌∙◌, rules}
 use Rattle.run_log.proofs.Rows.{parted_before, parted_whole}
 use Rattle.run_log.proofs.joining.following.Goals as goal
 

@@ -1,4 +1,4 @@
-use Rattle.std.proofs.Common.{◌≡◌, ◌+◌, drop}
+use Rattle.run_log.proofs.Common.{◌≡◌, ◌+◌, drop}
 use Rattle.run_log.proofs.Rows.{length_from}
 use Rattle.run_log.proofs.joining.following.Given as goal
 

@@ -1,5 +1,4 @@
-use Rattle.std.proofs.Common.{◌≡◌, ◌++◌, length, map}
-use Rattle.run_log.specs.Lines.{change_text, rows}
+use Rattle.run_log.proofs.Common.{◌≡◌, ◌++◌, length, map, change_text, rows}
 use Rattle.run_log.proofs.line.change_lines.Given as goal
 
 abbrev pub invariant-loop-rest : goal.invariant-loop-rest

@@ -1,6 +1,4 @@
-use Rattle.std.proofs.Common.{refl}
-use Rattle.std.specs.List.{flat_map}
-use Rattle.run_log.specs.Lines.{line_text}
+use Rattle.run_log.proofs.Common.{refl, flat_map, line_text}
 use Rattle.run_log.proofs.Rows.{line_more}
 use Rattle.run_log.proofs.line.put_lines.Goals as goal
 

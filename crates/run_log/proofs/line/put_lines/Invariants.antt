@@ -1,6 +1,4 @@
-use Rattle.std.proofs.Common.{◌≡◌, ◌++◌, length}
-use Rattle.std.specs.List.{flat_map}
-use Rattle.run_log.specs.Lines.{line_text, rows}
+use Rattle.run_log.proofs.Common.{◌≡◌, ◌++◌, length, flat_map, line_text, rows}
 use Rattle.run_log.proofs.line.put_lines.Given as goal
 
 abbrev pub invariant-loop-rest : goal.invariant-loop-rest

@@ -1,5 +1,4 @@
-use Rattle.std.proofs.Common.{◌≡◌, ◌++◌, take}
-use Rattle.run_log.specs.Lines.{news_text}
+use Rattle.run_log.proofs.Common.{◌≡◌, ◌++◌, take, news_text}
 use Rattle.run_log.proofs.line.put_news.Given as goal
 
 abbrev pub invariant-loop-changed : goal.invariant-loop-changed

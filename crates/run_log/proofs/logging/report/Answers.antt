@@ -1,4 +1,4 @@
-use Rattle.std.proofs.Common.{◌≡◌}
+use Rattle.run_log.proofs.Common.{◌≡◌}
 use Rattle.run_log.proofs.Following.{shows_of}
 use Rattle.run_log.proofs.logging.report.Goals as goal
 

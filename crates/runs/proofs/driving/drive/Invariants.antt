@@ -1,4 +1,4 @@
-use Rattle.runs.specs.Moments.{IsAt}
+use Rattle.runs.proofs.Common.{IsAt}
 use Rattle.runs.proofs.driving.drive.Given as goal
 
 abbrev pub invariant-loop-index : goal.invariant-loop-index

@@ -1,4 +1,4 @@
-use Rattle.std.proofs.Common.{refl}
+use Rattle.runs.proofs.Common.{refl}
 use Rattle.runs.proofs.Continuing.{at_more, is_after, refused_at}
 use Rattle.runs.proofs.driving.step.Goals as goal
 

@@ -1,5 +1,5 @@
-use Rattle.shrinking.proofs.Keeping.{kept_if}
+use Rattle.shrinking.proofs.Keeping.{candidate_if}
 use Rattle.shrinking.proofs.goal.replay_from.Goals as goal
 
-pub returns-then-ends_well : goal.returns-then-ends_well
-returns-then-ends_well c = let e = c.in-Ok.ensures in kept_if c.args.goal c.args.events.now _ _ e.runs e.at e.sighting c.requires.short (c.ends_well.ensures c.if-ends_well.true)
+pub returns-in-Ok : goal.returns-in-Ok
+returns-in-Ok c = let e = c.in-Ok.ensures in candidate_if c.args.goal c.setup.result.now c.args.events.now _ c.setup.ensures e.runs e.sighting c.requires.short

@@ -1,6 +1,4 @@
-use Rattle.std.proofs.Common.{◌≡◌, ◌++◌, length, map}
-use Rattle.run_log.specs.Lines.{rows}
-use Rattle.timeline.specs.Values.{change_texts, change_shown}
+use Rattle.timeline.proofs.Common.{◌≡◌, ◌++◌, length, map, rows, change_texts, change_shown}
 use Rattle.timeline.proofs.changes.change_parts.Given as goal
 
 abbrev pub invariant-loop-rest : goal.invariant-loop-rest

@@ -1,7 +1,4 @@
-use Rattle.std.proofs.Common.{rules, sym, subst, length}
-use Rattle.run_log.specs.declared.range.EventRange.{EventRange}
-use Rattle.timeline.specs.Pictures.{HasOpened}
-use Rattle.timeline.specs.Steps.{AreSteps}
+use Rattle.timeline.proofs.Common.{rules, sym, subst, length, EventRange, HasOpened, AreSteps}
 use Rattle.timeline.proofs.observing.seen_of.Goals as goal
 
 pub returns : goal.returns

@@ -1,6 +1,4 @@
-use Rattle.std.proofs.Common.{◌≡◌, map, take}
-use Rattle.std.specs.Prelude.{string_bytes}
-use Rattle.timeline.specs.Steps.{shown_line}
+use Rattle.timeline.proofs.Common.{◌≡◌, map, take, string_bytes, shown_line}
 use Rattle.timeline.proofs.steps.shown_lines.Given as goal
 
 abbrev pub invariant-loop-line : goal.invariant-loop-line

@@ -1,9 +1,4 @@
-use Rattle.std.proofs.Common.{rules, ◌≡◌, ◌∙◌, sym, ap, map, string_bytes}
-use Rattle.std.proofs.lemmas.Simd.{map-map}
-use Rattle.script.specs.EventTexts.{event_text}
-use Rattle.run_log.specs.Lines.{change_text, rows}
-use Rattle.timeline.specs.Steps.{shown_line}
-use Rattle.timeline.specs.Values.{change_shown}
+use Rattle.timeline.proofs.Common.{rules, ◌≡◌, ◌∙◌, sym, ap, map, string_bytes, map-map, event_text, change_text, rows, shown_line, change_shown}
 use Rattle.timeline.proofs.Stepping.{is_step}
 use Rattle.timeline.proofs.steps.step_of.Goals as goal
 

@@ -1,6 +1,4 @@
-use Rattle.std.proofs.Common.{◌≡◌, ◌++◌, take, map}
-use Rattle.machine.specs.Whole.{view}
-use Rattle.timeline.specs.Values.{value_texts, values_of}
+use Rattle.timeline.proofs.Common.{◌≡◌, ◌++◌, take, map, view, value_texts, values_of}
 use Rattle.timeline.proofs.values.add_values.Given as goal
 
 abbrev pub invariant-loop-place : goal.invariant-loop-place

@@ -1,6 +1,13 @@
+use Rattle.std.proofs.Common.{subst, ◌∙◌}
 use Rattle.machine.specs.Whole.{view}
+use Rattle.timeline.specs.Values.{AreRegions}
 use Rattle.timeline.proofs.Valued.{are_values}
 use Rattle.timeline.proofs.values.all_values_below.Goals as goal
 
 pub returns : goal.returns
-returns c = are_values c.args.setup.now (view c.args.state.now) c.args.fixed c.args.added _ _ c.requires.fixed c.requires.added c.in_ok-values.ensures c.in_ok-regions.ensures
+returns c =
+    let s = c.args.setup.now in
+    let v = view c.args.state.now in
+    let same = c.deref.ensures.value ∙ c.in_ok-regions.ensures in
+    are_values s v c.args.count _ _ c.requires.count c.in_ok-values.ensures
+    (subst (λ gs. AreRegions s v c.args.count gs c.in_ok-regions-2.regions.items) same c.in_ok-regions-2.ensures)

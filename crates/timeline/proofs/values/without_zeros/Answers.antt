@@ -1,4 +1,4 @@
-use Rattle.std.proofs.Common.{rules, ◌+◌}
+use Rattle.timeline.proofs.Common.{rules, ◌+◌}
 use Rattle.timeline.proofs.Valued.{zeros_more}
 use Rattle.timeline.proofs.values.without_zeros.Goals as goal
 

@@ -1,5 +1,4 @@
-use Rattle.std.proofs.Common.{◌≡◌, ℕ, ◌++◌, length}
-use Rattle.std.specs.Prelude.{replicate}
+use Rattle.timeline.proofs.Common.{◌≡◌, ℕ, ◌++◌, length, replicate}
 use Rattle.timeline.proofs.values.without_zeros.Given as goal
 
 abbrev pub invariant-loop-front : goal.invariant-loop-front

@@ -1,4 +1,4 @@
-use Rattle.findings.proofs.Followed.{few_threads, seen_all, report_of}
+use Rattle.findings.proofs.Followed.{few_threads, report_of, seen_all}
 use Rattle.findings.proofs.searching.Search.finish.Goals as goal
 
 pub ends_over-requires : goal.ends_over-requires

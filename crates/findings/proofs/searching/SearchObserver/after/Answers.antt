@@ -1,10 +1,5 @@
-use Rattle.std.proofs.Common.{◌+◌, ◌∙◌, ap, map, subst, arith}
-use Rattle.findings.specs.Durability.{completed_by}
-use Rattle.findings.specs.Suspects.{Follows}
-use Rattle.findings.specs.Watched.{advanced}
-use Rattle.findings.proofs.Followed.{seen_more}
-use Rattle.findings.proofs.Lasting.{mapped_back}
-use Rattle.findings.proofs.NextSteps.{are_next}
+use Rattle.findings.proofs.Common.{◌+◌, map, ◌∙◌, ap, subst, arith, completed_by, Follows, advanced}
+use Rattle.findings.proofs.{Followed.seen_more, Lasting.mapped_back, NextSteps.are_next}
 use Rattle.findings.proofs.searching.SearchObserver.after.Goals as goal
 
 pub advance-requires : goal.advance-requires

@@ -1,4 +1,4 @@
-use Rattle.std.proofs.Common.{◌≡◌, refl, ◌∙◌, ap, length, [], ◌∷◌, ◌++◌, arith}
+use Rattle.std.proofs.Common.{◌≡◌, refl, sym, ◌∙◌, ap, length, [], ◌∷◌, ◌++◌, arith}
 use Rattle.std.specs.Prelude.{None, option_map, slice_get}
 use Rattle.std.proofs.lemmas.Option.{slice_get_past}
 use Rattle.places.specs.declared.value.Value.TheVariants.{Requested}
@@ -15,20 +15,36 @@ count-requires c = room _ _ c.self.invariant.tallied
 pub update-requires : goal.update-requires
 update-requires c =
     let before = c.deref.ensures.value ∙ c.in_ok-reserve.ensures.items in
-    let after = c.deref-2.ensures.value ∙ c.in_ok-push.ensures.items ∙ ap (λ rows. rows ++ c.args.row ∷ []) c.in_ok-reserve.ensures.items in
+    let after = c.deref-3.ensures.value ∙ c.in_ok-push.ensures.items ∙ ap (λ rows. rows ++ c.args.row ∷ []) c.in_ok-reserve.ensures.items in
     let count : c.len-r.result ≡ length c.self.inside.rows.items = c.len-r.ensures ∙ c.self.inside.rows.ok.0 in
     let made = rw before at c.in_ok-make_room.ensures.ok in
     let indexed = rw before at c.in_ok-make_room.ensures.indexed in
     let on = rw (← c.self.view_is) at c.requires.continues in
     rw (after, count) (c.args.row, get-pushed c.self.inside.rows.items c.args.row, indexed_push c.self.inside.rows.items c.make_room.new.self c.args.row indexed made on)
 
+pub add-requires-clause-few : goal.add-requires-clause-few
+add-requires-clause-few c =
+    let few = rw (← c.self.view_is) at c.requires.room in
+    let count : c.len-r.result ≡ length c.self.inside.rows.items = c.len-r.ensures ∙ c.self.inside.rows.ok.0 in
+    omega (arith, few, count)
+
+pub add-requires-clause-room : goal.add-requires-clause-room
+add-requires-clause-room c =
+    let before = c.deref-2.ensures.value ∙ c.in_ok-reserve.ensures.items in
+    let count : c.len-r.result ≡ length c.self.inside.rows.items = c.len-r.ensures ∙ c.self.inside.rows.ok.0 in
+    let made = rw before at c.in_ok-make_room-2.ensures.ok in
+    rw count made
+
 pub invariant_of-self-2 : goal.invariant_of-self-2
 invariant_of-self-2 c =
     let few = rw (← c.self.view_is) at c.requires.room in
-    let after = c.deref-2.ensures.value ∙ c.in_ok-push.ensures.items ∙ ap (λ rows. rows ++ c.args.row ∷ []) c.in_ok-reserve.ensures.items in
+    let before = c.deref-2.ensures.value ∙ c.in_ok-reserve.ensures.items in
+    let count : c.len-r.result ≡ length c.self.inside.rows.items = c.len-r.ensures ∙ c.self.inside.rows.ok.0 in
+    let after = c.deref-3.ensures.value ∙ c.in_ok-push.ensures.items ∙ ap (λ rows. rows ++ c.args.row ∷ []) c.in_ok-reserve.ensures.items in
     rw (c.in_ok-push.ensures.items, c.in_ok-reserve.ensures.items) (record {
       tallied = tallied_push _ _ _ _ c.self.invariant.tallied few c.count.ensures;
       indexed = rw after at c.update.ensures;
+      findable = c.add.ensures c.self.inside.rows.items (sym count) (rw before at c.in_ok-make_room-2.ensures.findable);
     })
 
 pub returns-clause-keeps : goal.returns-clause-keeps

@@ -10,4 +10,5 @@ invariant_of-self c =
     rw c.truncate.ensures.items (record {
       tallied = tallied_cut _ _ _ _ c.self.invariant.tallied off;
       indexed = rw c.deref-then-n-len.ensures.value at c.cut.ensures;
+      findable = rw c.deref-then-n-len-2.ensures.value at c.cut-then-n-len.ensures;
     })

@@ -1,8 +1,6 @@
-use Rattle.std.proofs.Common.{◌≡◌, sym, subst, ◌∙◌}
-use Rattle.std.specs.Prelude.{None}
+use Rattle.std.proofs.Common.{sym, subst, ◌∙◌}
 use Rattle.places.proofs.Closing.{exact_led}
 use Rattle.machine.specs.Whole.{WellFormed}
-use Rattle.machine.specs.Steps.{refusal}
 use Rattle.machine.proofs.Formed.{formed_after}
 use Rattle.machine.proofs.PuttingBack.{back_from_exact}
 use Rattle.machine.proofs.Linking.{back_from_keeps, none_named}
@@ -10,8 +8,8 @@ use Rattle.machine.proofs.state.State.step.Goals as goal
 
 pub invariant_of-self : goal.invariant_of-self
 invariant_of-self c =
-    let accepted : refusal c.self.inside.machine c.args.event ≡ None = sym c.refuses.ensures ∙ c.in_default.is in
-    (subst WellFormed (sym c.in-Ok.ensures.ok) (formed_after _ _ c.self.invariant.0 accepted), c.finish-past.ensures.none)
+    let plan = c.in_ok-plan.ensures.ok in
+    (subst WellFormed (sym (c.in-Ok.ensures.ok ∙ plan.same)) (formed_after _ _ c.self.invariant.0 plan.accepted), c.finish-past.ensures.none)
 
 pub restore-requires : goal.restore-requires
 restore-requires c =

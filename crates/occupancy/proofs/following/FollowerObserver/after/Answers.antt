@@ -1,5 +1,5 @@
-use Rattle.std.proofs.Common.{◌≡◌, ◌+◌, length, min, arith}
-use Rattle.occupancy.proofs.FollowingLemmas.{rows_recorded, overflows_recorded, few_after, follows_more, stages_read, stages_kept}
+use Rattle.occupancy.proofs.Common.{◌≡◌, ◌+◌, length, min, arith}
+use Rattle.occupancy.proofs.FollowingLemmas.{few_after, follows_more, overflows_recorded, rows_recorded, stages_kept, stages_read}
 use Rattle.occupancy.proofs.following.FollowerObserver.after.Goals as goal
 
 pub note-requires-clause-rows : goal.note-requires-clause-rows

@@ -1,6 +1,5 @@
-use Rattle.std.proofs.Common.{◌≡◌, ◌∙◌, true, false, ap, sym, rules}
-use Rattle.run_log.specs.Ranges.{has}
-use Rattle.run_log.proofs.Following.{written_silent, seen_ok, stopped_err}
+use Rattle.run_log.proofs.Common.{◌≡◌, ◌∙◌, true, false, ap, sym, rules, has}
+use Rattle.run_log.proofs.Following.{seen_ok, stopped_err, written_silent}
 use Rattle.run_log.proofs.logging.LoggerObserver.after.Goals as goal
 
 pub returns-then-not-has-clause-ok : goal.returns-then-not-has-clause-ok

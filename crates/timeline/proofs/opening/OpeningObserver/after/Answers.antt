@@ -1,6 +1,5 @@
-use Rattle.std.proofs.Common.{◌≡◌, ◌+◌, length, min, ap, arith}
-use Rattle.run_log.specs.declared.range.EventRange.{EventRange}
-use Rattle.timeline.proofs.Opened.{opened_here, opened_before}
+use Rattle.timeline.proofs.Common.{◌≡◌, ◌+◌, length, min, ap, arith, EventRange}
+use Rattle.timeline.proofs.Opened.{opened_before, opened_here}
 use Rattle.timeline.proofs.opening.OpeningObserver.after.Goals as goal
 
 pub returns-in_ok-self-clause-ok : goal.returns-in_ok-self-clause-ok
@@ -10,7 +9,7 @@ returns-in_ok-self-clause-ok g c =
     let m = c.min.ensures in
     let same = c.requires.seen.0 in
     let a = ap (λ (r : EventRange). r.from) same in
-    (same, opened_here at.setup.now at.events.now at.index g.K.Ranged.range.from at.state.now c.in_ok-self.field-0 c.requires.at.at (omega (arith, t, m, a)) c.in_ok-self.ensures)
+    (same, c.requires.seen.1, opened_here at.setup.now at.events.now at.index g.K.Ranged.range.from at.state.now c.in_ok-self.field-0 c.requires.at.at (omega (arith, t, m, a)) c.in_ok-self.ensures)
 
 pub returns-else-moment-min-clause-ok : goal.returns-else-moment-min-clause-ok
 returns-else-moment-min-clause-ok g c =
@@ -19,4 +18,4 @@ returns-else-moment-min-clause-ok g c =
     let m = c.min.ensures in
     let same = c.requires.seen.0 in
     let a = ap (λ (r : EventRange). r.from) same in
-    (same, opened_before at.setup.now at.events.now at.index g.K.Ranged.range.from c.args.self.now.values c.requires.seen.1 (λ (q : at.index + 1 ≡ min g.K.Ranged.range.from (length at.events.now)). omega (arith, q, t, m, a)))
+    (same, c.requires.seen.1, opened_before at.setup.now at.events.now at.index g.K.Ranged.range.from c.args.self.now.values c.requires.seen.2 (λ (q : at.index + 1 ≡ min g.K.Ranged.range.from (length at.events.now)). omega (arith, q, t, m, a)))

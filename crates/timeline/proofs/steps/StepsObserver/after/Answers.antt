@@ -1,5 +1,4 @@
-use Rattle.std.proofs.Common.{rules, ◌≡◌, ◌∙◌, sym, ap, true, false}
-use Rattle.run_log.specs.Ranges.{has}
+use Rattle.timeline.proofs.Common.{rules, ◌≡◌, ◌∙◌, sym, ap, true, false, has}
 use Rattle.timeline.proofs.Stepping.{steps_more, steps_same}
 use Rattle.timeline.proofs.steps.StepsObserver.after.Goals as goal
 

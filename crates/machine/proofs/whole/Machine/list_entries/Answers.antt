@@ -1,0 +1,20 @@
+use Rattle.std.proofs.Common.{◌∙◌, sym, ap, [], ◌∷◌, ◌++◌}
+use Rattle.ring_words.specs.Rings.{sub_list}
+use Rattle.machine.specs.Submission.{entries_at}
+use Rattle.machine.proofs.TakingWords.{one_more, entries-named, entries-skipped}
+use Rattle.machine.proofs.whole.Machine.list_entries.Goals as goal
+use Rattle.machine.proofs.whole.Machine.list_entries.Goals.{in-Some+in_ok-push, in_default}
+
+pub loop-i-preserved : goal.loop-i-preserved
+loop-i-preserved c =
+    let slots = c.args.self.now.submissions.slots in
+    let words = sub_list c.args.self.now.submissions in
+    elim c.match-entry.branch [
+      | in-Some+in_ok-push w ↦
+          rw w.entries-is
+          (w.in_ok-push.ensures.items ∙ ap (λ es. es ++ w.in-Some.entry ∷ []) c.loop-i.invariant
+          ∙ sym (ap (entries_at slots) (one_more words c.loop-i.i c.word.result c.word.ensures) ∙ entries-named slots _ c.word.result _ (sym c.entry.ensures ∙ w.in-Some.is)))
+      | in_default w ↦
+          rw w.entries-is
+          (c.loop-i.invariant ∙ sym (ap (entries_at slots) (one_more words c.loop-i.i c.word.result c.word.ensures) ∙ entries-skipped slots _ c.word.result (sym c.entry.ensures ∙ w.in_default.is)))
+    ]

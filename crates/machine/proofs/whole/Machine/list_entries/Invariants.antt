@@ -1,0 +1,7 @@
+use Rattle.std.proofs.Common.{◌≡◌, take}
+use Rattle.ring_words.specs.Rings.{sub_list}
+use Rattle.machine.specs.Submission.{entries_at}
+use Rattle.machine.proofs.whole.Machine.list_entries.Given as goal
+
+abbrev pub invariant-loop-i : goal.invariant-loop-i
+invariant-loop-i l = l.entries.items ≡ entries_at l.self.submissions.slots (take l.i (sub_list l.self.submissions))

@@ -1,0 +1,10 @@
+use Rattle.std.proofs.Common.{sym, subst, ℤ, w32, FitsSigned, rules}
+use Rattle.std.proofs.lemmas.Int.{to_z-of_z}
+use Rattle.machine.specs.Plans.{CanDo}
+use Rattle.machine.specs.declared.planning.Plan.TheVariants.{Complete}
+use Rattle.machine.proofs.whole.Machine.perform.Goals as goal
+
+pub complete-requires-clause-can : goal.complete-requires-clause-can
+complete-requires-clause-can c =
+    let fits : FitsSigned w32 c.in-Complete.res = search rules in
+    subst (λ (z : ℤ). CanDo c.args.self.now (Complete c.in-Complete.r z)) (sym (to_z-of_z w32 c.in-Complete.res fits)) (subst (CanDo c.args.self.now) c.in-Complete.is c.requires.can)

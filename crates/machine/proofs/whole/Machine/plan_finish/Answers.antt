@@ -1,0 +1,26 @@
+use Rattle.std.proofs.Common.{◌≡◌, ◌∙◌, sym, subst, Some, false, w32, FitsSigned, rules, ℤ}
+use Rattle.std.specs.Prelude.{slice_get}
+use Rattle.std.proofs.lemmas.Int.{to_z-of_z}
+use Rattle.entries.specs.declared.row.Phase.TheVariants.{Issued}
+use Rattle.links_drains.specs.Holding.{is_held_by}
+use Rattle.opcodes.specs.Opcodes.{is_cancel, is_timer}
+use Rattle.opcodes.specs.Outcomes.{outcome_of}
+use Rattle.opcodes.specs.declared.ending.Outcome.TheVariants.{Res}
+use Rattle.machine.specs.Plans.{Plans}
+use Rattle.machine.specs.declared.planning.Plan.TheVariants.{Complete}
+use Rattle.scenario.specs.declared.event.Event.TheVariants.{Finish}
+use Rattle.machine.proofs.PlanLemmas.{complete_planned, finish_of_other}
+use Rattle.machine.proofs.whole.Machine.plan_finish.Goals as goal
+
+pub returns-in-Res-clause-ok : goal.returns-in-Res-clause-ok
+returns-in-Res-clause-ok c =
+    let m = c.args.self.now in
+    let there : slice_get m.table c.args.r ≡ Some c.in-Some.row = sym c.get.ensures ∙ c.in-Some.is in
+    let timer : is_timer c.in-Some.row.entry.opcode ≡ false = sym c.is_timer.ensures ∙ c.if-is_timer.false in
+    let issued : c.in-Some.row.phase ≡ Issued = search rules in
+    let cancels : is_cancel c.in-Some.row.entry.opcode ≡ false = sym c.is_cancel.ensures ∙ c.if-is_cancel.false in
+    let outcome : outcome_of (is_held_by m.table) m.world c.in-Some.row c.args.choice ≡ Res c.in-Res.res = sym c.outcome.ensures ∙ c.in-Res.is in
+    let fits : FitsSigned w32 c.in-Res.res = search rules in
+    let p = complete_planned m c.args.r c.args.choice c.in-Some.row c.in-Res.res there issued cancels outcome in
+    subst (λ (z : ℤ). Plans m (Finish c.args.r c.args.choice) (Complete c.args.r z)) (sym (to_z-of_z w32 c.in-Res.res fits))
+    (record { accepted = finish_of_other m c.args.r c.args.choice c.in-Some.row (Res c.in-Res.res) there timer issued cancels (sym outcome); can = p.0; same = p.1 })
