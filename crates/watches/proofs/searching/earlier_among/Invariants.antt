@@ -1,6 +1,6 @@
 use Rattle.std.proofs.Common.{ℕ, ◌<◌, ◌≤◌}
 use Rattle.watches.specs.Stops.{Unchanged}
-use Rattle.watches.proofs.stopping.earlier_among.Given as goal
+use Rattle.watches.proofs.searching.earlier_among.Given as goal
 
 abbrev pub invariant-loop-moment : goal.invariant-loop-moment
 invariant-loop-moment l = record {
