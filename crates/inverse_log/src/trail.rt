@@ -170,11 +170,11 @@ impl Trail {
         ensures ok { OnOk result (self.new ≡ reached tally self.old to (to - from)) }
         ensures err { OnErr result (self.new ≡ self.old) }
     {
-        mem::swap(&mut self.state, &mut state);
+        self.state.exchange(&mut state);
         let at = mem::replace(&mut self.at, from);
         let gone = self.on_to(to, tally);
         if gone.is_err() {
-            mem::swap(&mut self.state, &mut state);
+            self.state.exchange(&mut state);
             self.at = at;
         }
         gone
@@ -239,8 +239,8 @@ impl Trail {
         ensures err { OnErr result (self.new ≡ self.old) }
     {
         let event = self.events[self.at];
-        match self.state.step(event) {
-            Ok(_) => {
+        match self.state.repeat(event) {
+            Ok(()) => {
                 self.at += 1;
                 self.walked = tallied(self.walked, tally);
                 Ok(())

@@ -349,7 +349,7 @@ fn state_after(mut state: State, events: &[Event]) -> Result<State, AllocError>
     ensures { IfOk result (λ end. end ≡ run state events.now) }
 {
     for event in events {
-        if let Err(_) = state.step(*event) {
+        if let Err(_) = state.repeat(*event) {
             return Err(AllocError);
         }
     }

@@ -53,6 +53,11 @@ pub unnamed : (o : Option (Option Value)) → is_some o ≡ false → o ≡ None
 unnamed None h = refl
 unnamed (Some x) h = cc
 
+-- What a record can't name, it doesn't name.
+pub not_named : (named may : Bool) → (named ≡ true → may ≡ true) → may ≡ false → may ≡ named
+not_named true may f h = f refl
+not_named false may f h = h
+
 -- If the record names none of the places, all stay the same.
 pub none_named : (old new : View) (cs : List Change) (ps : List Place) → Exact old new cs → list_any (names cs) ps ≡ false → Stays old new ps
 none_named old new cs [] x h = tt

@@ -87,7 +87,7 @@ fn names_any(past: &Record, places: &[Place]) -> bool
 fn names_place(past: &Record, place: Place) -> bool
     ensures { result ≡ names past.now place }
 {
-    past.names(place)
+    past.may_name(place) && past.names(place)
 }
 
 // Returns whether the event after a moment meets one of the breaks.
