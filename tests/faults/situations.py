@@ -219,6 +219,7 @@ def calls_of_sessions():
     yield Situation("line", "counter", 49, lines=["goto 5"], asked="counter")
     yield Situation("line", "counter", 49, lines=["rcont", "goto 7", "watch event e"], asked="counter")
     yield Situation("line", "counter", 49, lines=["cont", "goto 7", "watch event e", "break clock = 2"], asked="counter")
+    yield Situation("line", "counter", 49, lines=["cont", "goto 7", "break clock = 40"], asked="counter")
     yield Situation("line", "counter", 49, lines=["back 45"], asked="counter")
     yield Situation("line", "counter", 49, lines=["on 30", "goto 3"], asked="counter")
     yield Situation("line", "counter", 49, lines=["watch event e"], asked="counter")

@@ -12,7 +12,7 @@ use commands::CommandFault;
 use inverse_log::Walker;
 use places::{Place, Value};
 use std::alloc::{AllocError, Global};
-use watches::{LIMIT, Stop, back_to, cont, earlier};
+use watches::{LIMIT, Stop, earlier, later, position_of};
 
 // Watches a place. The text is built first, so that an `Err` changes nothing.
 pub(crate) fn watch(
@@ -95,8 +95,8 @@ pub(crate) fn stop_back(alloc: Global, visitor: &mut Visitor) -> Result<Vec<u8>,
     Ok(text)
 }
 
-// Moves forward to where a watch or a break stops. If the text can't be allocated, returns to the
-// former position, which allocates nothing.
+// Moves forward to where a watch or a break stops, without counting steps. The text is built
+// first, so that an `Err` changes nothing.
 pub(crate) fn stop_on(alloc: Global, visitor: &mut Visitor) -> Result<Vec<u8>, AllocError>
     ensures text { IfOk result (λ text. text.items
         ≡ (stops_on visitor.old (forward_stop visitor.old.walk visitor.old.stops)).text) }
@@ -104,13 +104,11 @@ pub(crate) fn stop_on(alloc: Global, visitor: &mut Visitor) -> Result<Vec<u8>, A
         ≡ (stops_on visitor.old (forward_stop visitor.old.walk visitor.old.stops)).next) }
     ensures err { OnErr result (visitor.new ≡ visitor.old) }
 {
-    let (from, len) = (visitor.walker.at(), visitor.walker.len());
-    let stop = cont(&mut visitor.walker, &visitor.watches)?;
-    match stop_line(alloc, stop, len) {
-        Ok(text) => Ok(text),
-        Err(_) => {
-            back_to(&mut visitor.walker, from);
-            Err(AllocError)
-        }
+    let stop = later(&visitor.walker, &visitor.watches)?;
+    let text = stop_line(alloc, stop, visitor.walker.len())?;
+    let moment = position_of(&visitor.walker, stop);
+    match visitor.walker.move_to(moment) {
+        Ok(()) => Ok(text),
+        Err(_) => Err(AllocError),
     }
 }

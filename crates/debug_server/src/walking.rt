@@ -20,6 +20,7 @@ use machine::{Event, Setup};
 use script::{Script, ScriptFault, read_script};
 use std::alloc::Global;
 use std::io::{Read, Write};
+use std::mem;
 
 /// Reads a script, runs its schedule, and replies to the reader's lines.
 pub fn walk<R: Read, W: Write>(
@@ -117,26 +118,30 @@ pub fn walk_events<R: Read, W: Write>(
     ensures open { result ≢ Err (RunFault.Serve Closed) }
     ensures other { IfErr result (IsOf (OfSchedule ∷ OfServing ∷ OfMemory ∷ [])) }
 {
-    let mut session = Session::of(alloc, setup, events)?;
-    reply_to_all(&mut session, reader, writer)
+    let session = Session::of(alloc, setup, events)?;
+    reply_to_all(session, reader, writer)
 }
 
-// Replies to the reader's lines, without a source.
+// Replies to the reader's lines, without a source. The program ends after the last of them, so the
+// session is forgotten, which takes no time, and not freed record by record.
 fn reply_to_all<R: Read, W: Write>(
-    session: &mut Session,
+    session: Session,
     reader: &mut R,
     writer: &mut W,
 ) -> Result<(), RunFault>
-    requires { session.old.is_closed ≡ false }
-    ensures ok { OnOk result (Replied session.old.state
+    requires { session.is_closed ≡ false }
+    ensures ok { OnOk result (Replied session.state
         (streams (R.remaining reader.old) (W.contents writer.old))
         (streams (R.remaining reader.new) (W.contents writer.new))) }
-    ensures err { IfErr result (BrokenBy session.old.state
+    ensures err { IfErr result (BrokenBy session.state
         (streams (R.remaining reader.old) (W.contents writer.old))
         (streams (R.remaining reader.new) (W.contents writer.new))) }
     ensures open { result ≢ Err (RunFault.Serve Closed) }
 {
-    match serve(session, reader, writer, &mut NoSource) {
+    let mut session = session;
+    let ended = serve(&mut session, reader, writer, &mut NoSource);
+    mem::forget(session);
+    match ended {
         Ok(()) => Ok(()),
         Err(fault) => Err(RunFault::Serve(fault)),
     }

@@ -1,5 +1,5 @@
 -- Lemmas about checkpoints: while a run grows, the copies made on the way maintain `Covers`.
-use Rattle.std.proofs.Common.{◌≡◌, ◌≢◌, ℕ, zero, suc, ◌+◌, ◌*◌, ◌/◌, ◌%◌, ◌<◌, ◌≤◌, List, [], ◌∷◌, ◌++◌, ◌⊎◌, inl, inr, length, get_or, sym, ap, ◌∙◌, subst, arith, append_assoc, length-append}
+use Rattle.std.proofs.Common.{◌≡◌, ◌≢◌, ℕ, zero, suc, ◌+◌, ◌*◌, ◌/◌, ◌%◌, ◌<◌, ◌≤◌, List, [], ◌∷◌, ◌++◌, ◌⊎◌, inl, inr, length, take, drop, get_or, sym, ap, ◌∙◌, subst, arith, append_assoc, length-append}
 use Rattle.std.specs.Prelude.{Some, slice_get}
 use Rattle.std.proofs.lemmas.List.{take-append-le}
 use Rattle.std.proofs.lemmas.Bool.{cases_lt, cases_order}
@@ -12,7 +12,9 @@ use Rattle.machine.specs.declared.whole.Machine.{Machine}
 use Rattle.scenario.specs.declared.setup.Setup.{Setup}
 use Rattle.scenario.specs.declared.event.Event.{Event}
 use Rattle.machine.specs.Runs.{run, start, moment}
+use Rattle.checkpoints.specs.Checkpoints.{nearest}
 use Rattle.inverse_log.specs.Tracks.{Track, grown, Covers}
+use Rattle.inverse_log.proofs.Runs.{run_rest}
 
 -- ---- Multiples
 
@@ -102,6 +104,14 @@ copy_there setup es c xs m h w = let a = h.all in div_below m c (length xs) (som
 -- Copy k is the state of moment k * c.
 pub copy_of : (setup : Setup) (es : List Event) (c : ℕ) (xs : List Machine) (k : ℕ) (s : Machine) → Covers setup es c xs → k < length xs → slice_get xs k ≡ Some s → s ≡ moment setup es (k * c)
 copy_of setup es c xs k s h b e = let f = h.each k b in cc
+
+-- The rest of the run, from the copy nearest to its end, leads to its end.
+pub from_copy : (setup : Setup) (es fs : List Event) (c : ℕ) (xs : List Machine) (len n : ℕ) (s t : Machine) → Covers setup es c xs → len ≡ length es → slice_get xs (len / c) ≡ Some s → n ≡ nearest c len → t ≡ s → fs ≡ es → run t (drop n fs) ≡ run (start setup) es
+from_copy setup es fs c xs len n s t h whole there near same events =
+    let below = copy_there setup es c xs len h (omega arith) in
+    let at : s ≡ moment setup es (len / c * c) = copy_of setup es c xs (len / c) s h below there in
+    let here : t ≡ run (start setup) (take n es) = same ∙ at ∙ ap (λ k. run (start setup) (take k es)) (sym near) in
+    ap (λ l. run t (drop n l)) events ∙ ap (λ m. run m (drop n es)) here ∙ run_rest (start setup) es n
 
 -- ---- Copies made during a run
 

@@ -1,14 +1,16 @@
 -- Lemmas about runs, their prefixes, and records that lead back.
-use Rattle.std.proofs.Common.{◌≡◌, ℕ, zero, suc, ◌+◌, ◌<◌, List, [], ◌∷◌, ◌++◌, ◌⊎◌, inl, inr, length, take, get_or, refl, sym, ap, ◌∙◌, arith, add-one}
+use Rattle.std.proofs.Common.{◌≡◌, ℕ, zero, suc, ◌+◌, ◌-◌, ◌<◌, List, [], ◌∷◌, ◌++◌, ◌⊎◌, inl, inr, length, take, drop, get_or, refl, sym, ap, subst, ◌∙◌, arith, add-one}
 use Rattle.std.specs.Prelude.{Option, Some, None}
+use Rattle.std.proofs.lemmas.List.{take_more, take-append-drop, length-drop}
+use Rattle.std.proofs.Math.Seq.{take-length}
 use Rattle.places.specs.declared.value.Change.{Change}
 use Rattle.machine.specs.declared.whole.Machine.{Machine}
 use Rattle.scenario.specs.declared.setup.Setup.{Setup}
 use Rattle.scenario.specs.declared.event.Event.{Event}
 use Rattle.scenario.specs.declared.event.Refusal.{Refusal}
 use Rattle.scenario.specs.declared.event.Refusal.TheVariants.{Memory}
-use Rattle.machine.specs.Steps.{refusal, after}
-use Rattle.machine.specs.Runs.{run, Accepts, IsRefused, start}
+use Rattle.machine.specs.Steps.{refusal, after, Next}
+use Rattle.machine.specs.Runs.{run, IsRefused, start}
 pub use Rattle.machine.proofs.Longer.{run-append, run-push, accepts-append, accepts-push}
 pub use Rattle.machine.proofs.LinkedRuns.{linked_runs, linked_accepts, length_linked, linked_at, linked_more, linked_take}
 use Rattle.places.specs.View.{Exact}
@@ -24,6 +26,20 @@ run-take_suc s (x ∷ es) (suc i) e h g = run-take_suc (after s x) es i e (omega
 
 pub run-take_more : (s : Machine) (es : List Event) (i : ℕ) (e : Event) → i < length es → e ≡ get_or es i e → run s (take (i + 1) es) ≡ after (run s (take i es)) e
 run-take_more s es i e h g = rw add-one (run-take_suc s es i e h g)
+
+-- One more event of the list is one more step.
+pub run-more : (s m m' : Machine) (es : List Event) (i : ℕ) (e d : Event) → i < length es → e ≡ get_or es i d → m ≡ run s (take i es) → Next m e m' → m' ≡ run s (take (i + 1) es)
+run-more s m m' es i e d h g here next =
+    let more : run s (take (i + 1) es) ≡ after (run s (take i es)) (get_or es i d) = ap (run s) (take_more es i d h) ∙ run-push s (take i es) (get_or es i d) in
+    next.changed ∙ ap (λ x. after x e) here ∙ ap (λ x. after (run s (take i es)) x) g ∙ sym more
+
+-- What follows moment n of a list, taken to the list's end.
+pub sliced : (es : List Event) (n : ℕ) → take (length es - n) (drop n es) ≡ drop n es
+sliced es n = subst (λ (k : ℕ). take k (drop n es) ≡ drop n es) (length-drop n es) (take-length (drop n es))
+
+-- Running the rest of a list from a moment of it leads to its end.
+pub run_rest : (s : Machine) (es : List Event) (n : ℕ) → run (run s (take n es)) (drop n es) ≡ run s es
+run_rest s es n = sym (run-append s (take n es) (drop n es)) ∙ ap (run s) (take-append-drop n es)
 
 pub run_all : (s : Machine) (es : List Event) (n : ℕ) → n ≡ length es → run s (take n es) ≡ run s es
 run_all s [] zero h = refl

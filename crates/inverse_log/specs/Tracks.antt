@@ -44,11 +44,10 @@ stepped c t m =
     record
     { setup = t.setup; events = t.events; at = m; walked = tallied c t.walked (distance t.at m) }
 
--- The track moved to moment m, with the given number of steps counted.
-abbrev pub reached : Track → ℕ → ℕ → Track
-reached t m steps =
-    record
-    { setup = t.setup; events = t.events; at = m; walked = min (t.walked + steps) (2 ^ 64 - 1) }
+-- The track moved to moment m by the given number of steps.
+abbrev pub reached : Tally → Track → ℕ → ℕ → Track
+reached c t m steps =
+    record { setup = t.setup; events = t.events; at = m; walked = tallied c t.walked steps }
 
 -- The track with the events `es` appended, at moment m.
 abbrev pub grown : Track → List Event → ℕ → Track

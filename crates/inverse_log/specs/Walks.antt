@@ -5,6 +5,8 @@ use Rattle.scenario.specs.declared.setup.Setup.{Setup}
 use Rattle.scenario.specs.declared.event.Event.{Event}
 use Rattle.machine.specs.Runs.{start, run, moment}
 use Rattle.checkpoints.specs.Checkpoints.{nearest}
+use Rattle.inverse_log.specs.declared.trail.Tally.{Tally}
+use Rattle.inverse_log.specs.Tracks.{tallied}
 
 -- A walker as contracts see it. `at` is the position and `walked` counts the steps of
 -- jumps. Checkpoints are at the multiples of `every`, and a jump undoes at most
@@ -50,6 +52,10 @@ moved w m = record w { at = m }
 -- The walk at moment m after a jump, with its steps counted.
 abbrev pub jumped : Walk → ℕ → Walk
 jumped w m = record w { at = m; walked = min (w.walked + steps_to w m) (2 ^ 64 - 1) }
+
+-- The walk at moment m after a jump: `jumped` if its steps are counted, else `moved`.
+abbrev pub gone : Tally → Walk → ℕ → Walk
+gone c w m = record w { at = m; walked = tallied c w.walked (steps_to w m) }
 
 -- The walk with the events `es` appended, at the same position.
 abbrev pub extended : Walk → List Event → Walk

@@ -155,20 +155,26 @@ impl Trail {
         Ok(())
     }
 
-    /// Goes to the moment `to` from `state`, a copy of moment `from`, by counted steps. If an
+    /// Goes to the moment `to` from `state`, a copy of moment `from`, by single steps. If an
     /// allocation fails, the position is unchanged.
-    pub fn on_from(&mut self, mut state: State, from: usize, to: usize) -> Result<(), AllocError>
+    pub fn on_from(
+        &mut self,
+        mut state: State,
+        from: usize,
+        to: usize,
+        tally: Tally,
+    ) -> Result<(), AllocError>
         requires state { state ≡ moment self.old.setup self.old.events from }
         requires later { from ≤ to }
         requires within { to ≤ length self.old.events }
-        ensures ok { OnOk result (self.new ≡ reached self.old to (to - from)) }
+        ensures ok { OnOk result (self.new ≡ reached tally self.old to (to - from)) }
         ensures err { OnErr result (self.new ≡ self.old) }
     {
-        mem::swap(&mut self.state, &mut state);
+        self.state.exchange(&mut state);
         let at = mem::replace(&mut self.at, from);
-        let gone = self.on_to(to, Tally::Counted);
+        let gone = self.on_to(to, tally);
         if gone.is_err() {
-            mem::swap(&mut self.state, &mut state);
+            self.state.exchange(&mut state);
             self.at = at;
         }
         gone
@@ -233,8 +239,8 @@ impl Trail {
         ensures err { OnErr result (self.new ≡ self.old) }
     {
         let event = self.events[self.at];
-        match self.state.step(event) {
-            Ok(_) => {
+        match self.state.repeat(event) {
+            Ok(()) => {
                 self.at += 1;
                 self.walked = tallied(self.walked, tally);
                 Ok(())

@@ -3,7 +3,7 @@
 ghost use Rattle.std.specs.Prelude.{◌≡◌, ℕ, ◌-◌, ◌+◌, ◌^◌, ◌<◌, ◌≤◌, ◌↔◌, ◌⊎◌, ◌∷◌, [], Some, None, length, min, nat_lt, IsOk, OnOk, OnErr, IfErr, IfOk, MatchBool};
 ghost use Rattle.scenario.specs.declared.event.Refusal.{Refusal};
 ghost use Rattle.scenario.specs.declared.setup.SetupRefusal.{SetupRefusal};
-ghost use Rattle.machine.specs.Runs.{start, Accepts, Linked, setup_refusal};
+ghost use Rattle.machine.specs.Runs.{start, run, Accepts, Linked, setup_refusal};
 
 use crate::refusal::{ExtendRefusal, WalkRefusal};
 use crate::trail::{Tally, Trail};
@@ -55,7 +55,7 @@ impl Model for Walker {
 
 impl Walker {
     ghost use Rattle.inverse_log.specs.Tracks.{Covers, RefusedAt, Recorded};
-    ghost use Rattle.inverse_log.specs.Walks.{here, ending, fresh, fresh_with, moved, jumped, steps_to, extended};
+    ghost use Rattle.inverse_log.specs.Walks.{here, ending, fresh, fresh_with, moved, jumped, gone, steps_to, extended};
 
     /// Returns a run without events, at its start, with a checkpoint each 1,024 events and a window
     /// of 256. Fails as `State::new` does: if the setup breaks a limit, or with `Memory`.
@@ -265,15 +265,49 @@ impl Walker {
         ensures back { moment ≤ self.old.at → self.old.at ≤ moment + self.old.window → IsOk result }
         ensures err { OnErr result (self.new ≡ self.old) }
     {
+        self.jump(moment, Tally::Counted)
+    }
+
+    /// The same as `goto`, but its steps are not added to `walked`.
+    pub fn move_to(&mut self, moment: usize) -> Result<(), WalkRefusal>
+        ensures ok { OnOk result (self.new ≡ moved self.old moment) }
+        ensures there { (result ≡ Err WalkRefusal.NoSuchMoment)
+            ↔ (length self.old.events < moment) }
+        ensures back { moment ≤ self.old.at → self.old.at ≤ moment + self.old.window → IsOk result }
+        ensures err { OnErr result (self.new ≡ self.old) }
+    {
+        self.jump(moment, Tally::Free)
+    }
+
+    /// Returns the state at the end of the run. The position stays.
+    pub fn last_state(&self) -> Result<State, AllocError>
+        ensures { IfOk result (λ state. state ≡ ending self.now) }
+    {
+        let len = self.len() as u32;
+        let nearest = self.kept.nearest(len);
+        let state = self.kept.state(len).copy(self.alloc)?;
+        state_after(state, &self.events()[nearest as usize..])
+    }
+
+    // Jumps to a moment by undoing events or by repeating them.
+    fn jump(&mut self, moment: usize, tally: Tally) -> Result<(), WalkRefusal>
+        ensures ok { OnOk result (self.new ≡ gone tally self.old moment) }
+        ensures short { OnOk result ((steps_to self.old moment ≤ self.old.window)
+            ⊎ (steps_to self.old moment < self.old.every)) }
+        ensures there { (result ≡ Err WalkRefusal.NoSuchMoment)
+            ↔ (length self.old.events < moment) }
+        ensures back { moment ≤ self.old.at → self.old.at ≤ moment + self.old.window → IsOk result }
+        ensures err { OnErr result (self.new ≡ self.old) }
+    {
         let (at, len) = (self.at(), self.len());
         if moment > len {
             return Err(WalkRefusal::NoSuchMoment);
         }
         if moment <= at && at - moment <= self.kept.window() as usize {
-            self.trail.back_to(moment, Tally::Counted);
+            self.trail.back_to(moment, tally);
             return Ok(());
         }
-        match self.jump_on(moment as u32) {
+        match self.jump_on(moment as u32, tally) {
             Ok(()) => Ok(()),
             Err(_) => Err(WalkRefusal::Memory),
         }
@@ -281,19 +315,20 @@ impl Walker {
 
     // Jumps by repeating events: from the position if no checkpoint is between, else from a copy
     // of the nearest checkpoint.
-    fn jump_on(&mut self, moment: u32) -> Result<(), AllocError>
+    fn jump_on(&mut self, moment: u32, tally: Tally) -> Result<(), AllocError>
         requires within { moment ≤ length self.old.events }
         requires far { moment ≤ self.old.at → moment + self.old.window < self.old.at }
-        ensures ok { OnOk result (self.new ≡ jumped self.old moment) }
+        ensures ok { OnOk result (self.new ≡ gone tally self.old moment) }
         ensures err { OnErr result (self.new ≡ self.old) }
         ensures short { steps_to self.old moment < self.old.every }
     {
         let (at, nearest) = (self.at(), self.kept.nearest(moment));
         if nearest as usize <= at && at <= moment as usize {
-            self.trail.on_to(moment as usize, Tally::Counted)
+            self.trail.on_to(moment as usize, tally)
         } else {
             let state = self.kept.state(moment).copy(self.alloc)?;
-            self.trail.on_from(state, nearest as usize, moment as usize)
+            self.trail
+                .on_from(state, nearest as usize, moment as usize, tally)
         }
     }
 }
@@ -307,4 +342,16 @@ fn kept_first(alloc: Global, state: &State, every: u32, window: u32) -> Result<K
     let mut kept = Kept::new(alloc, every, window);
     kept.keep(vec![in alloc; state.copy(alloc)?]?)?;
     Ok(kept)
+}
+
+// Returns the state that events lead to from a state. It is an `Err` too if one is refused.
+fn state_after(mut state: State, events: &[Event]) -> Result<State, AllocError>
+    ensures { IfOk result (λ end. end ≡ run state events.now) }
+{
+    for event in events {
+        if let Err(_) = state.repeat(*event) {
+            return Err(AllocError);
+        }
+    }
+    Ok(state)
 }

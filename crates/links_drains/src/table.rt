@@ -354,13 +354,14 @@ impl Table {
     }
 }
 
-/// Copies the rows in pieces. glibc copies more than 2,048 bytes or so, depending on the processor,
+/// Copies the rows in pieces, with room for some more: else all rows would move at the first push.
+/// glibc copies more than 2,048 bytes or so, depending on the processor,
 /// with `rep movsb`, which callgrind counts as an instruction per byte. Smaller pieces keep the
 /// counts comparable, and take the same time.
 fn copy_rows(alloc: Global, rows: &[Row]) -> Result<Vec<Row>, AllocError>
     ensures { IfOk result (λ copy. copy.items ≡ rows.now) }
 {
-    let mut copy = Vec::with_capacity(alloc, rows.len())?;
+    let mut copy = Vec::with_capacity(alloc, rows.len().saturating_add(rows.len() / 8))?;
     let mut left = rows;
     while !left.is_empty() {
         let (piece, remaining) = left.split_at(left.len().min(PIECE));

@@ -1,5 +1,6 @@
 //! The state of a run, and its steps.
 
+mod repeating;
 mod rows;
 
 use crate::whole::Machine;

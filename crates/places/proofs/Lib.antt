@@ -9,6 +9,7 @@ pub mod Kept
 pub mod Joining
 pub mod Sorts
 pub mod Sound
+pub mod Summing
 pub mod Left
 pub mod Restored
 pub mod SameValue

@@ -20,6 +20,7 @@ pub mod All
 pub mod HeldBytes
 pub mod Packed
 pub mod Heads
+pub mod Summaries
 pub mod SlotLaws
 pub mod Text
 pub mod Sameness

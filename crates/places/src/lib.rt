@@ -12,6 +12,7 @@ pub mod part;
 pub mod place;
 pub mod record;
 pub mod recorder;
+pub mod summary;
 pub mod text;
 pub mod value;
 

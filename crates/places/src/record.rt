@@ -1,11 +1,12 @@
 //! Undo records: the places that a step changed, with their old values.
-ghost use Rattle.std.specs.Prelude.{◌≡◌, ◌∷◌, ◌++◌, [], map, is_some, MatchOption, None};
+ghost use Rattle.std.specs.Prelude.{◌≡◌, ◌∷◌, ◌++◌, [], map, is_some, true, MatchOption, None};
 ghost use Rattle.places.specs.View.{named, NamesOnce};
 ghost use Rattle.places.specs.Heads.{number_was};
 ghost use Rattle.places.specs.declared.listed.Listed.TheVariants.{Requests, Overflowed};
 ghost use Rattle.places.specs.Notes.{IsLeft, left};
 ghost use Rattle.places.specs.Slots.{row_change};
 ghost use Rattle.places.specs.All.{all_changes, record_changes};
+ghost use Rattle.places.specs.Summaries.{Summed};
 
 use crate::listed::Listed;
 use crate::notes::byte_changes::{ByteChanges, Stretches};
@@ -20,6 +21,7 @@ use crate::notes::wide::Wide;
 use crate::packing::changes::PackedChanges;
 use crate::packing::packed::Packed;
 use crate::place::Place;
+use crate::summary::has_place;
 use crate::value::Change;
 use std::marker::Model;
 
@@ -29,6 +31,8 @@ use std::marker::Model;
 pub struct Record {
     packed: Packed,
     more: More,
+    /// The bits of the places.
+    summary: u64,
 }
 
 impl Model for Record {
@@ -36,12 +40,14 @@ impl Model for Record {
     ghost use Rattle.places.specs.declared.value.Change.{Change};
     ghost use Rattle.places.specs.View.{NamesOnce};
     ghost use Rattle.places.specs.All.{record_changes};
+    ghost use Rattle.places.specs.Summaries.{Summed};
 
     ghost Value = { List Change };
 
     ghost view = { λ a. record_changes a.packed a.more.wide a.more.rest };
 
-    ghost invariant = { λ a. NamesOnce (record_changes a.packed a.more.wide a.more.rest) };
+    ghost invariant = { λ a. NamesOnce (record_changes a.packed a.more.wide a.more.rest)
+        × Summed a.summary (record_changes a.packed a.more.wide a.more.rest) };
 }
 
 /// An iterator over the changes of a record.
@@ -110,13 +116,15 @@ impl<'a> Changes<'a> {
 }
 
 impl Record {
-    pub(crate) fn from_parts(packed: Packed, wide: Wide, rest: Kept) -> Record
-        requires { NamesOnce (record_changes packed wide rest) }
+    pub(crate) fn from_parts(packed: Packed, wide: Wide, rest: Kept, summary: u64) -> Record
+        requires once { NamesOnce (record_changes packed wide rest) }
+        requires summed { Summed summary (record_changes packed wide rest) }
         ensures { result ≡ record_changes packed wide rest }
     {
         Record {
             packed,
             more: More::new(wide, rest),
+            summary,
         }
     }
 
@@ -158,6 +166,14 @@ impl Record {
             odd: self.more.odd(),
         };
         (kinds, self.more.stretches(), others)
+    }
+
+    /// Returns whether the record may name a place. One test of bits, which is true for each place
+    /// that the record names, and for few others.
+    pub fn may_name(&self, place: Place) -> bool
+        ensures { is_some (named self.now place) ≡ true → result ≡ true }
+    {
+        has_place(self.summary, place)
     }
 
     /// Returns whether the record names a place.

@@ -20,6 +20,7 @@ use crate::packing::packed::Packed;
 use crate::part::At;
 use crate::place::Place;
 use crate::record::Record;
+use crate::summary::summary_of;
 use crate::value::Value;
 use entries::{Cqe, Row};
 use std::alloc::{AllocError, Global};
@@ -359,6 +360,18 @@ impl Recorder {
         either(self.rest.names(place), by_kind)
     }
 
+    /// Removes all notes, and keeps their memory for the next ones if it is small. Allocates
+    /// nothing.
+    pub fn forget(&mut self)
+        ensures { self.new.made ≡ [] }
+    {
+        self.numbers.forget();
+        self.completions.forget();
+        self.rows.forget();
+        self.rest.forget();
+        self.room = Room::new();
+    }
+
     /// Returns the undo record: the notes whose place has another value in `whole`. It cannot fail.
     /// If there is no memory to pack the notes, the record takes them with their memory.
     pub fn close<A: At>(self, whole: &A) -> Record
@@ -379,17 +392,18 @@ impl Recorder {
         let rows = self.rows.close(whole);
         let rest = self.rest.close(whole);
         self.room = Room::new();
+        let summary = summary_of(&numbers, &completions, &rows, &rest);
         match Packed::from_parts(&numbers, &completions, &rows, &mut self.scratch) {
             Ok(packed) => {
                 self.numbers.reuse(numbers);
                 self.completions.reuse(completions);
                 self.rows.reuse(rows);
-                Record::from_parts(packed, Wide::new(), rest)
+                Record::from_parts(packed, Wide::new(), rest, summary)
             }
             Err(_) => {
                 let spare = mem::replace(&mut self.spare, Wide::new());
                 let wide = spare.with(numbers, completions, rows);
-                Record::from_parts(Packed::new(), wide, rest)
+                Record::from_parts(Packed::new(), wide, rest, summary)
             }
         }
     }

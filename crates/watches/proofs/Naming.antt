@@ -1,11 +1,12 @@
 -- What the places named in an exact record say about the states before and after its event.
-use Rattle.std.proofs.Common.{◌≡◌, ◌≢◌, inl, inr, ℕ, zero, suc, ◌+◌, ◌<◌, Bool, true, false, List, [], ◌∷◌, ◌++◌, length, take, get_or, refl, sym, ap, subst, arith, add-one}
-use Rattle.std.specs.Prelude.{Option, Some, None, is_some, ◌||◌, ◌⊎◌}
+use Rattle.std.proofs.Common.{◌≡◌, ◌≢◌, inl, inr, ℕ, zero, suc, ◌+◌, ◌<◌, Bool, true, false, List, [], ◌∷◌, ◌++◌, length, take, get_or, refl, sym, ap, ◌∙◌, subst, arith, add-one}
+use Rattle.std.specs.Prelude.{Option, Some, None, is_some, ◌||◌, ◌⊎◌, ◌↔◌, IsTrue, MatchBool}
 use Rattle.std.specs.List.{list_any}
 use Rattle.std.proofs.lemmas.List.{take_more}
 use Rattle.places.specs.declared.place.Place.{Place}
 use Rattle.places.specs.declared.value.Value.{Value}
 use Rattle.places.specs.declared.value.Change.{Change}
+use Rattle.places.specs.Places.{same_place}
 use Rattle.places.specs.View.{View, Exact, named}
 use Rattle.machine.specs.declared.whole.Machine.{Machine}
 use Rattle.scenario.specs.declared.event.Event.{Event}
@@ -48,9 +49,14 @@ either : (a b : Bool) → (a || b) ≡ true → (a ≡ true) ⊎ (b ≡ true)
 either true b h = inl refl
 either false b h = inr h
 
-unnamed : (o : Option (Option Value)) → is_some o ≡ false → o ≡ None
+pub unnamed : (o : Option (Option Value)) → is_some o ≡ false → o ≡ None
 unnamed None h = refl
 unnamed (Some x) h = cc
+
+-- What a record can't name, it doesn't name.
+pub not_named : (named may : Bool) → (named ≡ true → may ≡ true) → may ≡ false → may ≡ named
+not_named true may f h = f refl
+not_named false may f h = h
 
 -- If the record names none of the places, all stay the same.
 pub none_named : (old new : View) (cs : List Change) (ps : List Place) → Exact old new cs → list_any (names cs) ps ≡ false → Stays old new ps
@@ -76,7 +82,34 @@ any_named old new cs (p ∷ ps) x h s =
       | inr e ↦ any_named old new cs ps x e s.1
     ]
 
+-- ---- Old values
+
+-- The first change of a list names its place.
+pub named_first : (c : Change) (cs : List Change) (p : Place) → same_place c.place p ≡ true → named (c ∷ cs) p ≡ Some c.old
+unfolding named
+named_first c cs p h = rw h refl
+
+-- A change of another place leaves what the rest names.
+pub named_next : (c : Change) (cs : List Change) (p : Place) → same_place c.place p ≡ false → named (c ∷ cs) p ≡ named cs p
+unfolding named
+named_next c cs p h = rw h refl
+
+pub named_none : (p : Place) → named [] p ≡ None
+unfolding named
+named_none p = refl
+
 -- ---- Breaks
+
+-- An event that doesn't change the place of a break doesn't meet it.
+pub unmet_unnamed : (old new : View) (cs : List Change) (b : Break) → Exact old new cs → names cs b.place ≡ false → new b.place ≡ Some b.value → old b.place ≡ Some b.value
+unmet_unnamed old new cs b x h e = x.same b.place (unnamed (named cs b.place) h) ∙ e
+
+-- An event that changes the place meets the break exactly if the new value is the break's.
+pub met_named : (old new : View) (cs : List Change) (b : Break) (found : Option Value) (r : Bool) → Exact old new cs → names cs b.place ≡ true → found ≡ new b.place → (IsTrue r ↔ (found ≡ Some b.value)) → MatchBool r ((new b.place ≡ Some b.value → old b.place ≡ Some b.value) → ⊥) (new b.place ≡ Some b.value → old b.place ≡ Some b.value)
+met_named old new cs b found true x h e d =
+    let is : new b.place ≡ Some b.value = sym e ∙ d.0 refl in
+    λ f. differs_named old new cs b.place x h (f is ∙ sym is)
+met_named old new cs b found false x h e d = λ k. let no : false ≡ true = d.1 (e ∙ k) in absurd cc
 
 none_met_push : (old new : View) (bs : List Break) (b : Break) → NoneMet old new bs → (new b.place ≡ Some b.value → old b.place ≡ Some b.value) → NoneMet old new (bs ++ b ∷ [])
 none_met_push old new [] b h f = (f, tt)

@@ -111,14 +111,14 @@ IsLater w v (Met m) =
 IsLater w v End = Quiet w v w.at (length w.events)
 IsLater w v Start = ⊥
 
--- The stop of the event before the position, if it stops a walk forward.
-abbrev pub IsStop : Walk → Stops → Option Stop → Type 0
-IsStop w v None = Unchanged w v.watchpoints (w.at - 1) × Unmet w v.breakpoints (w.at - 1)
-IsStop w v (Some (Change m)) = (m ≡ w.at) × (Unchanged w v.watchpoints (w.at - 1) → ⊥)
-IsStop w v (Some (Met m)) =
-    (m ≡ w.at) × Unchanged w v.watchpoints (w.at - 1) × (Unmet w v.breakpoints (w.at - 1) → ⊥)
-IsStop w v (Some Start) = ⊥
-IsStop w v (Some End) = ⊥
+-- The stop of the event after moment k, if it stops a walk forward.
+abbrev pub IsStop : Walk → Stops → ℕ → Option Stop → Type 0
+IsStop w v k None = Unchanged w v.watchpoints k × Unmet w v.breakpoints k
+IsStop w v k (Some (Change m)) = (m ≡ k + 1) × (Unchanged w v.watchpoints k → ⊥)
+IsStop w v k (Some (Met m)) =
+    (m ≡ k + 1) × Unchanged w v.watchpoints k × (Unmet w v.breakpoints k → ⊥)
+IsStop w v k (Some Start) = ⊥
+IsStop w v k (Some End) = ⊥
 
 -- The moment at which a stop leaves the walker.
 abbrev pub position_of : Walk → Stop → ℕ

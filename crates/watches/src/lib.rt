@@ -2,8 +2,10 @@
 //! changes a watched place, or to a moment at which a place takes a given value.
 #![tactic(auto)]
 
+pub mod searching;
 pub mod stopping;
 mod watched;
 
-pub use stopping::{Stop, back_to, cont, earlier, rcont};
+pub use searching::{earlier, later};
+pub use stopping::{Stop, cont, position_of, rcont};
 pub use watched::{Break, LIMIT, Watches};

@@ -1,5 +1,5 @@
 //! The rarer kinds of notes, runs of bytes and single places, after a recorder is closed.
-ghost use Rattle.std.specs.Prelude.{◌≡◌, [], is_some};
+ghost use Rattle.std.specs.Prelude.{◌≡◌, [], true, is_some};
 ghost use Rattle.places.specs.View.{named};
 ghost use Rattle.places.specs.Runs.{run_changes};
 ghost use Rattle.places.specs.RestOf.{rest_of};
@@ -83,6 +83,26 @@ impl Kept {
         match &self.inner {
             None => Stretches::none(),
             Some(inner) => inner.bytes.stretches(),
+        }
+    }
+
+    /// Returns whether there are no notes of bytes.
+    pub fn has_no_bytes(&self) -> bool
+        ensures { result ≡ true → self.now.runs ≡ [] }
+    {
+        match &self.inner {
+            None => true,
+            Some(inner) => inner.bytes.is_empty(),
+        }
+    }
+
+    /// Returns whether there are no notes of single places.
+    pub fn has_no_odd(&self) -> bool
+        ensures { result ≡ true → self.now.odd ≡ [] }
+    {
+        match &self.inner {
+            None => true,
+            Some(inner) => inner.odd.is_empty(),
         }
     }
 

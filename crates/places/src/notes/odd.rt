@@ -84,6 +84,13 @@ impl Odd {
         self.notes.shrink_to_fit();
     }
 
+    /// Removes all notes, and keeps the memory for later ones.
+    pub fn clear(&mut self)
+        ensures { self.new.notes ≡ [] }
+    {
+        self.notes.clear();
+    }
+
     /// Returns whether there are no notes.
     pub fn is_empty(&self) -> bool
         ensures { MatchBool result (self.now.notes ≡ []) (self.now.notes ≢ []) }

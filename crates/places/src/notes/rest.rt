@@ -133,6 +133,18 @@ impl Rest {
         }
     }
 
+    /// Removes all notes, and keeps the memory for later ones.
+    pub fn forget(&mut self)
+        ensures no_runs { self.new.runs ≡ [] }
+        ensures no_olds { self.new.olds ≡ [] }
+        ensures no_odd { self.new.odd ≡ [] }
+    {
+        if let Some(inner) = &mut self.inner {
+            inner.bytes.clear();
+            inner.odd.clear();
+        }
+    }
+
     /// Removes and returns the notes whose place has another value in `whole`. If none has, the
     /// memory stays here for later notes.
     pub fn close<A: At>(&mut self, whole: &A) -> Kept

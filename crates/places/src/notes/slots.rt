@@ -155,6 +155,14 @@ impl<N: Slotted + Copy> Slots<N> {
         take_notes(&mut self.notes)
     }
 
+    /// Removes all notes. Their memory stays for later ones, unless it is large.
+    pub fn forget(&mut self)
+        ensures { self.new.notes ≡ [] }
+    {
+        let notes = take_notes(&mut self.notes);
+        self.notes = emptied(notes);
+    }
+
     /// Takes over the memory of returned notes for later ones, unless it is large.
     pub fn reuse(&mut self, notes: Vec<N>)
         ensures { self.new.notes ≡ [] }

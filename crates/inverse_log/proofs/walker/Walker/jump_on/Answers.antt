@@ -1,8 +1,7 @@
-use Rattle.std.proofs.Common.{◌≡◌, ◌∙◌, ◌+◌, ◌-◌, ◌/◌, ◌≤◌, ◌^◌, arith, length, ap, sym, rules}
-use Rattle.std.specs.Prelude.{min}
+use Rattle.std.proofs.Common.{◌≡◌, ◌∙◌, ◌+◌, ◌-◌, ◌/◌, ◌≤◌, arith, length, ap, sym, rules}
 use Rattle.checkpoints.specs.Checkpoints.{nearest}
 use Rattle.machine.specs.Runs.{moment}
-use Rattle.inverse_log.specs.Tracks.{Track}
+use Rattle.inverse_log.specs.Tracks.{Track, tallied}
 use Rattle.inverse_log.specs.Walks.{Walk, steps_to}
 use Rattle.inverse_log.proofs.Copying.{copy_of, copy_there}
 use Rattle.inverse_log.proofs.Jumping.{steps_from_copy, on_ok}
@@ -22,8 +21,8 @@ returns-in_ok-state-clause-ok c =
     let steps = steps_from_copy c.args.self.now c.args.moment c.nearest-nearest.result (c.nearest-nearest.ensures.value ∙ ap (λ (w : Walk). nearest w.every c.args.moment) c.self.view_is) c.requires.far later in
     on_ok c.on_from.result (λ e.
     ap (λ (t : Track). record { setup = t.setup; events = t.events; at = t.at; walked = t.walked; every = c.self.inside.kept.every; window = c.self.inside.kept.window }) e
-    ∙ ap (λ n. record { setup = c.self.inside.trail.setup; events = c.self.inside.trail.events; at = c.args.moment; walked = min (c.self.inside.trail.walked + n) (2 ^ 64 - 1); every = c.self.inside.kept.every; window = c.self.inside.kept.window }) (sym steps)
-    ∙ ap (λ (w : Walk). record w { at = c.args.moment; walked = min (w.walked + steps_to c.args.self.now c.args.moment) (2 ^ 64 - 1) }) c.self.view_is)
+    ∙ ap (λ n. record { setup = c.self.inside.trail.setup; events = c.self.inside.trail.events; at = c.args.moment; walked = tallied c.args.tally c.self.inside.trail.walked n; every = c.self.inside.kept.every; window = c.self.inside.kept.window }) (sym steps)
+    ∙ ap (λ (w : Walk). record w { at = c.args.moment; walked = tallied c.args.tally w.walked (steps_to c.args.self.now c.args.moment) }) c.self.view_is)
     c.on_from.ensures.ok
 
 pub returns-in_ok-state-clause-short : goal.returns-in_ok-state-clause-short

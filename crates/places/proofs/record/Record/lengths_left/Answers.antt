@@ -17,12 +17,12 @@ pub returns-clause-rows : goal.returns-clause-rows
 returns-clause-rows c =
     let w = c.self.inside.more.wide in
     rw (← c.self.view_is)
-    (left_of_parts Requests c.self.inside.packed (all_changes w.numbers w.completions w.rows c.self.inside.more.rest) c.args.rows c.lengths_left-rows_left.result.0 _ c.self.invariant
+    (left_of_parts Requests c.self.inside.packed (all_changes w.numbers w.completions w.rows c.self.inside.more.rest) c.args.rows c.lengths_left-rows_left.result.0 _ c.self.invariant.0
     c.lengths_left-rows_left.ensures.rows c.left_unpacked.ensures)
 
 pub returns-clause-backlog : goal.returns-clause-backlog
 returns-clause-backlog c =
     let w = c.self.inside.more.wide in
     rw (← c.self.view_is)
-    (left_of_parts Overflowed c.self.inside.packed (all_changes w.numbers w.completions w.rows c.self.inside.more.rest) c.args.backlog c.lengths_left-rows_left.result.1 _ c.self.invariant
+    (left_of_parts Overflowed c.self.inside.packed (all_changes w.numbers w.completions w.rows c.self.inside.more.rest) c.args.backlog c.lengths_left-rows_left.result.1 _ c.self.invariant.0
     c.lengths_left-rows_left.ensures.backlog c.left_unpacked-2.ensures)
