@@ -250,12 +250,12 @@ no_mark rows f fd low high h number none r row l k there = by (cases_Bool (holds
     by (inr other) = other
 
 -- The next mark is one of the descriptor's.
-pub marked_later : (rows : List Row) (f : Finder) (fd at next : ℕ) → Findable rows f → length rows ≤ 65536 → at < length rows → is_descriptor_number fd ≡ true → IsNext f.holding (mark_of fd at) next → next / 256 ≡ mark_of fd at / 256 → (start : ℕ) → start ≡ max at (next % 256 * 256) → NoHolder fd rows at start
+pub marked_later : (rows : List Row) (f : Finder) (fd at next : ℕ) → Findable rows f → length rows ≤ 65536 → at < length rows → is_descriptor_number fd ≡ true → IsNext f.holding (mark_of fd at) next → next / 1024 ≡ mark_of fd at / 1024 → (start : ℕ) → start ≡ max at (next % 1024 * 64) → NoHolder fd rows at start
 marked_later rows f fd at next h few within number m same start s =
     no_mark rows f fd at start h number (λ r l k n. m.least (mark_of fd r) (omega (arith, l)) (omega (arith, same, s, k, few, within, n, l)))
 
 -- It isn't, or there is none.
-pub unmarked : (rows : List Row) (f : Finder) (fd at next : ℕ) → Findable rows f → length rows ≤ 65536 → at < length rows → is_descriptor_number fd ≡ true → IsNext f.holding (mark_of fd at) next → next / 256 ≢ mark_of fd at / 256 → NoHolder fd rows at (length rows)
+pub unmarked : (rows : List Row) (f : Finder) (fd at next : ℕ) → Findable rows f → length rows ≤ 65536 → at < length rows → is_descriptor_number fd ≡ true → IsNext f.holding (mark_of fd at) next → next / 1024 ≢ mark_of fd at / 1024 → NoHolder fd rows at (length rows)
 unmarked rows f fd at next h few within number m other =
     no_mark rows f fd at (length rows) h number (λ r l k n. m.least (mark_of fd r) (omega (arith, l)) (let a = m.after in elim (cases_lt (mark_of fd r) next) [ inl less ↦ less | inr more ↦ absurd (other (omega (arith, a, more, few, within, n, l))) ]))
 
@@ -279,26 +279,38 @@ joined_ranges fd rows a b c g h r row l k there = elim (cases_lt r b) [ inl less
 before_issued : (fd : ℕ) (rows : List Row) (start r : ℕ) → IsNextIssued rows start r → NoHolder fd rows start r
 before_issued fd rows start r n q row l k there = and_left _ _ (n.least q row l k there)
 
-pub holder_found : (fd : ℕ) (rows : List Row) (from at start r : ℕ) (row : Row) → from ≤ at → at ≤ start → NoHolder fd rows from at → NoHolder fd rows at start → IsNextIssued rows start r → slice_get rows r ≡ Some row → holds_now fd row ≡ true → IsNextWhere (holds_now fd) rows from r
-holder_found fd rows from at start r row l k g h n there holder = record {
-  after = let a = n.after in omega (arith, a, l, k);
+pub holder_found : (fd : ℕ) (rows : List Row) (from at r : ℕ) (row : Row) → from ≤ at → NoHolder fd rows from at → IsNextIssued rows at r → slice_get rows r ≡ Some row → holds_now fd row ≡ true → IsNextWhere (holds_now fd) rows from r
+holder_found fd rows from at r row l g n there holder = record {
+  after = let a = n.after in omega (arith, a, l);
   row = row;
   there = there;
   passes = holder;
-  least = λ q x low high t. joined_ranges fd rows from start r (joined_ranges fd rows from at start g h) (before_issued fd rows start r n) q x low high t;
+  least = λ q x low high t. joined_ranges fd rows from at r g (before_issued fd rows at r n) q x low high t;
 }
 
-pub holder_passed : (fd : ℕ) (rows : List Row) (from at start r : ℕ) (row : Row) → NoHolder fd rows from at → NoHolder fd rows at start → IsNextIssued rows start r → slice_get rows r ≡ Some row → holds_now fd row ≡ false → NoHolder fd rows from (r + 1)
-holder_passed fd rows from at start r row g h n there other = joined_ranges fd rows from r (r + 1) (joined_ranges fd rows from start r (joined_ranges fd rows from at start g h) (before_issued fd rows start r n)) (λ q x low high t. let e : q ≡ r = omega (arith, low, high) in let same : Some row ≡ Some x = sym there ∙ ap (slice_get rows) (sym e) ∙ t in here x same)
+pub holder_passed : (fd : ℕ) (rows : List Row) (from at r : ℕ) (row : Row) → NoHolder fd rows from at → IsNextIssued rows at r → slice_get rows r ≡ Some row → holds_now fd row ≡ false → NoHolder fd rows from (r + 1)
+holder_passed fd rows from at r row g n there other = joined_ranges fd rows from r (r + 1) (joined_ranges fd rows from at r g (before_issued fd rows at r n)) (λ q x low high t. let e : q ≡ r = omega (arith, low, high) in let same : Some row ≡ Some x = sym there ∙ ap (slice_get rows) (sym e) ∙ t in here x same)
   where
     here : (x : Row) → Some row ≡ Some x → holds_now fd x ≡ false
     here x e = let s : row ≡ x = cc in ap (holds_now fd) (sym s) ∙ other
 
+pub holder_after : (fd : ℕ) (rows : List Row) (from start r : ℕ) → from ≤ start → NoHolder fd rows from start → IsNextWhere (holds_now fd) rows start r → IsNextWhere (holds_now fd) rows from r
+holder_after fd rows from start r l g n = record {
+  after = let a = n.after in omega (arith, a, l);
+  row = n.row;
+  there = n.there;
+  passes = n.passes;
+  least = λ q x low high t. joined_ranges fd rows from start r g n.least q x low high t;
+}
+
 pub no_holder : (fd : ℕ) (rows : List Row) (from at : ℕ) → NoHolder fd rows from at → NoHolder fd rows at (length rows) → NoneWhere (holds_now fd) rows from
 no_holder fd rows from at g h q row l there = joined_ranges fd rows from at (length rows) g h q row l (slice_get_within rows q row there) there
 
-pub no_issued : (fd : ℕ) (rows : List Row) (from at start : ℕ) → NoHolder fd rows from at → NoHolder fd rows at start → NoneIssuedFrom rows start → NoneWhere (holds_now fd) rows from
-no_issued fd rows from at start g h n q row l there = elim (cases_lt q start) [ inl less ↦ joined_ranges fd rows from at start g h q row l less there | inr more ↦ and_left _ _ (n q row more there) ]
+pub no_holder_left : (fd : ℕ) (rows : List Row) (from at end : ℕ) → NoHolder fd rows from at → end ≤ at → NoHolder fd rows from end
+no_holder_left fd rows from at end g h r row l k there = g r row l (omega (arith, h, k)) there
+
+pub no_issued : (fd : ℕ) (rows : List Row) (from at end : ℕ) → NoHolder fd rows from at → NoneIssuedFrom rows at → NoHolder fd rows from end
+no_issued fd rows from at end g n q row l k there = elim (cases_lt q at) [ inl less ↦ g q row l less there | inr more ↦ and_left _ _ (n q row more there) ]
 
 -- ---- Room in an empty table
 

@@ -27,20 +27,20 @@ NoHolder fd rows low high =
 
 -- The hash of a user_data.
 abbrev pub hash_of : ℕ → ℕ
-hash_of user_data = user_data % 2039
+hash_of user_data = user_data % 8191
 
 abbrev pub row_hash : Row → ℕ
 row_hash row = hash_of row.entry.user_data
 
--- The number of a descriptor and a block of 256 requests.
+-- The number of a descriptor and a block of 64 requests.
 abbrev pub mark_of : ℕ → ℕ → ℕ
-mark_of fd r = (fd - 3) * 256 + r / 256
+mark_of fd r = (fd - 3) * 1024 + r / 64
 
 -- There is room for n requests.
 pub record HasPlace (n : ℕ) (finder : Finder) : Type 0 where
-  pub last : 2039 ≤ length finder.last.items
+  pub last : 8191 ≤ length finder.last.items
   pub previous : n ≤ length finder.previous.items
-  pub holding : 16384 ≤ 64 * length finder.holding
+  pub holding : 65536 ≤ 64 * length finder.holding
 
 -- Each request is below the end of its hash's requests, and of those before each later one. The
 -- blocks of all holders are marked.

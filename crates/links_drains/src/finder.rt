@@ -4,6 +4,7 @@ ghost use Rattle.entries.specs.declared.row.Row.{Row};
 ghost use Rattle.model_files.specs.Holders.{is_descriptor_number};
 ghost use Rattle.links_drains.specs.Finders.{hash_of as hash_of_user, holds_now, mark_of as mark_of_block, row_hash, NoHolder, NoUser};
 ghost use Rattle.links_drains.specs.Numbered.{IsNextWhere, NoneWhere};
+ghost use Rattle.links_drains.specs.Indexes.{Indexed};
 
 use crate::index::Index;
 use bit_sets::BitSet;
@@ -11,13 +12,13 @@ use entries::{Phase, Row};
 use std::alloc::{AllocError, Global};
 
 /// The number of hashes: a prime, so that pointers to aligned structures have different ones.
-const HASHES: u64 = 2039;
+const HASHES: u64 = 8191;
 
 /// The number of requests that share a mark for each descriptor.
-const BLOCK: usize = 256;
+const BLOCK: usize = 64;
 
 /// The number of blocks in a full table.
-const BLOCKS: usize = 256;
+const BLOCKS: usize = 1024;
 
 /// Numbers copied at once: 1,920 bytes.
 const PIECE: usize = 480;
@@ -36,7 +37,6 @@ pub(crate) struct Finder {
 
 impl Finder {
     ghost use Rattle.links_drains.specs.Finders.{Findable, HasPlace, IsMarked};
-    ghost use Rattle.links_drains.specs.Indexes.{Indexed};
 
     /// Builds the finder of an empty table, without an allocation.
     pub(crate) fn new(alloc: Global) -> Finder
@@ -79,17 +79,14 @@ impl Finder {
 
     // Makes room for all hashes.
     fn make_hashes(&mut self) -> Result<(), AllocError>
-        ensures { OnOk result (2039 ≤ length self.new.last.items) }
+        ensures { OnOk result (8191 ≤ length self.new.last.items) }
     {
-        for _hash in self.last.len()..HASHES as usize {
-            self.last.push(0)?;
-        }
-        Ok(())
+        self.last.resize(HASHES as usize, 0)
     }
 
     // Makes room for the marks of all descriptors and blocks.
     fn make_marks(&mut self) -> Result<(), AllocError>
-        ensures ok { OnOk result (16384 ≤ 64 * length self.new.holding) }
+        ensures ok { OnOk result (65536 ≤ 64 * length self.new.holding) }
         ensures last { self.new.last ≡ self.old.last }
         ensures previous { self.new.previous ≡ self.old.previous }
     {
@@ -235,11 +232,11 @@ impl Finder {
     {
         let mut at = from;
         while let Some(start) = self.next_block(rows, fd, at) {
-            let r = index.next_issued(start)?;
-            if holds(&rows[r], fd) {
+            let end = (start / BLOCK + 1) * BLOCK;
+            if let Some(r) = next_holder_before(rows, index, fd, start, end) {
                 return Some(r);
             }
-            at = r + 1;
+            at = end;
         }
         None
     }
@@ -255,6 +252,31 @@ impl Finder {
             holding: self.holding.copy(alloc)?,
         })
     }
+}
+
+// Returns the first request of a range that holds the descriptor, or the first one after the range,
+// if it is the next issued request. Examines issued requests only.
+fn next_holder_before(
+    rows: &[Row],
+    index: &Index,
+    fd: u32,
+    start: usize,
+    end: usize,
+) -> Option<usize>
+    requires indexed { Indexed rows.now index.now }
+    requires few { length rows.now ≤ 65536 }
+    ensures some { IfSome result (λ r. IsNextWhere (holds_now fd) rows.now start r) }
+    ensures none { IfNone result (NoHolder fd rows.now start end) }
+{
+    let mut at = start;
+    while at < end {
+        let r = index.next_issued(at)?;
+        if holds(&rows[r], fd) {
+            return Some(r);
+        }
+        at = r + 1;
+    }
+    None
 }
 
 // Copies the numbers in pieces, for the reason for which the table copies its rows so.

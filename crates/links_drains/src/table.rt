@@ -137,6 +137,14 @@ impl Table {
         self.rows[r as usize]
     }
 
+    /// Lends a request that is known to be present.
+    pub fn row_ref(&self, r: u32) -> &Row
+        requires { r < length self.now }
+        ensures { slice_get self.now r ≡ Some result.now }
+    {
+        &self.rows[r as usize]
+    }
+
     pub(crate) fn rows(&self) -> &[Row]
         ensures { result.now ≡ self.now }
     {

@@ -155,9 +155,9 @@ fn or_later(
     ensures { (row : Row) → slice_get table.now r ≡ Some row
         → result ≡ (if is_match key me r row then Some (r, row) else later) }
 {
-    let row = table.row(r);
-    if is_match(key, me, r, &row) {
-        Some((r, row))
+    let row = table.row_ref(r);
+    if is_match(key, me, r, row) {
+        Some((r, *row))
     } else {
         later
     }
@@ -210,9 +210,9 @@ fn matching(table: &Table, key: Key, me: u32, r: u32) -> Option<(u32, Row)>
     ensures some { IfSome result (λ p. IsMatch table.now key me r p) }
     ensures none { IfNone result (NoMatch table.now key me r) }
 {
-    let row = table.row(r);
-    if is_match(key, me, r, &row) {
-        Some((r, row))
+    let row = table.row_ref(r);
+    if is_match(key, me, r, row) {
+        Some((r, *row))
     } else {
         None
     }

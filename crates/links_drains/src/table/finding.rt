@@ -25,7 +25,7 @@ impl Table {
     }
 
     /// Returns the first request from a number on that holds a descriptor. Examines only issued
-    /// requests, and only in blocks of 256 requests with one that holds the descriptor or held it.
+    /// requests, and only in blocks of 64 requests with one that holds the descriptor or held it.
     pub fn next_holder(&self, fd: u32, from: u32) -> Option<u32>
         ensures some { IfSome result (λ r. IsNextWhere (holds_now fd) self.now from r) }
         ensures none { IfNone result (NoneWhere (holds_now fd) self.now from) }

@@ -13,12 +13,12 @@ pub returns-then-next-mark-clause-none : goal.returns-then-next-mark-clause-none
 returns-then-next-mark-clause-none c =
     let m = mark_is c.args.fd c.args.at c.in-Some.mark c.in-Some.ensures in
     let P : ℕ → Type 0 = λ k. IsNext c.args.self.now.holding k c.in_ok-next.next in
-    unmarked c.args.rows.now c.args.self.now c.args.fd c.args.at c.in_ok-next.next c.requires.findable c.requires.few (omega arith) m.0 (subst P m.1 c.in_ok-next.ensures.some) (λ e. c.if-next-mark.true (e ∙ ap (λ k. k / 256) (sym m.1)))
+    unmarked c.args.rows.now c.args.self.now c.args.fd c.args.at c.in_ok-next.next c.requires.findable c.requires.few (omega arith) m.0 (subst P m.1 c.in_ok-next.ensures.some) (λ e. c.if-next-mark.true (e ∙ ap (λ k. k / 1024) (sym m.1)))
 
 pub returns-clause-some : goal.returns-clause-some
 returns-clause-some c =
     let m = mark_is c.args.fd c.args.at c.in-Some.mark c.in-Some.ensures in
     let P : ℕ → Type 0 = λ k. IsNext c.args.self.now.holding k c.in_ok-next.next in (
       omega arith,
-      marked_later c.args.rows.now c.args.self.now c.args.fd c.args.at c.in_ok-next.next c.requires.findable c.requires.few (omega arith) m.0 (subst P m.1 c.in_ok-next.ensures.some) (c.if-next-mark.false ∙ ap (λ k. k / 256) m.1) c.max.result c.max.ensures,
+      marked_later c.args.rows.now c.args.self.now c.args.fd c.args.at c.in_ok-next.next c.requires.findable c.requires.few (omega arith) m.0 (subst P m.1 c.in_ok-next.ensures.some) (c.if-next-mark.false ∙ ap (λ k. k / 1024) m.1) c.max.result c.max.ensures,
     )
