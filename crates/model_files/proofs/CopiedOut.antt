@@ -1,13 +1,13 @@
 -- Facts about the notes of a transfer from a pipe or an eventfd into memory.
 use Rattle.std.proofs.Common.{◌≡◌, ℕ, Bool, true, false, cond, refl, sym, ◌∙◌, ap, subst, List, ◌++◌, length, take, drop, append_assoc, ◌+◌, ◌-◌, ◌<◌, ◌≤◌, ◌⊎◌, inl, inr, get_or, arith}
 use Rattle.std.specs.Int.{w64, to_le_bytes}
-use Rattle.std.specs.Prelude.{Option, Some, None, IsSome, slice_get}
+use Rattle.std.specs.Prelude.{Some, None, IsSome, slice_get}
 use Rattle.std.specs.Option.{option_and_then}
 use Rattle.std.proofs.lemmas.Bool.{eqb-true}
 use Rattle.std.proofs.lemmas.Grind.{common_steps}
 use Rattle.std.proofs.lemmas.Option.{gets, slice_get_past, slice_get_within}
 use Rattle.places.specs.declared.place.Place.{Place}
-use Rattle.places.specs.declared.place.Place.TheVariants.{MemoryByte, TakenCount}
+use Rattle.places.specs.declared.place.Place.TheVariants.{MemoryByte, TakenCount, EventCount}
 use Rattle.places.specs.declared.value.Change.{Change}
 use Rattle.places.specs.declared.value.Value.TheVariants.{Number}
 use Rattle.places.specs.declared.notes.runs.Region.TheVariants.{Memory}
@@ -25,6 +25,7 @@ use Rattle.model_files.proofs.Among.{among_fresh, among_named}
 use Rattle.model_files.proofs.Comparing.{slice_get-part, slice_get-part_past}
 use Rattle.model_files.proofs.Lifting.{with_body, seen_of_set, own_seen, keeps_object, changed_body, found_body}
 use Rattle.model_files.proofs.Noting.{below_or_not, keeps_changed, length-part, noted_named}
+use Rattle.model_files.proofs.Piping.{keeps_counter}
 use Rattle.model_files.proofs.Remembering.{keeps_memory_bytes, names_memory}
 
 names_then : (owns : Place → Bool) (u v w : View) (ds : List Change) → NamesChanges owns u v ds → NamesChanges owns v w ds → NamesChanges owns u w ds
@@ -134,22 +135,18 @@ copied_is w o k addr p first second one two h bytes within a b =
 
 -- ---- The counter of an eventfd
 
-pub keeps_cleared : (w : WorldState) (o addr : ℕ) (b c : Body) (bytes memory : List ℕ) (cs ds es : List Change) → slice_get w.objects o ≡ Some b → addr + length bytes ≤ length w.memory → NotedAmong cs ds Memory addr (part w.memory addr (length bytes)) → NamesDiffering ds Memory addr (part w.memory addr (length bytes)) bytes
-    → ((q : Place) → named es q ≡ None → named ds q ≡ None) → Keeps (object_owns o) (body_seen b) (body_seen c) ds es → memory ≡ overwritten w.memory addr bytes → Keeps world_owns (world_seen w) (world_seen (record (with_body w o c) { memory = memory })) cs es
-keeps_cleared w o addr b c bytes memory cs ds es h within a one more k m =
-    subst (λ (xs : List ℕ). Keeps world_owns (world_seen w) (world_seen (record (with_body w o c) { memory = xs })) cs es) (sym m)
-    (keeps_changed world_owns (world_seen w) (world_seen (with_body w o c)) (world_seen (with_body (world_stored addr bytes w) o c)) cs es
-    (keeps_then world_owns (world_seen w) (world_seen w) (world_seen (with_body w o c)) cs ds es (keeps_memory_bytes w addr (length bytes) cs ds a) (keeps_object w o b c ds es h k))
-    (names_memory (with_body w o c) addr (length bytes) bytes es within refl (λ i e. one i (more (MemoryByte (addr + i)) e))))
+-- Recording memory and a counter, and then storing the counter's bytes and resetting it, doesn't
+-- change what undoing gives.
+pub keeps_cleared : (w : WorldState) (o addr n : ℕ) (bytes memory : List ℕ) (cs ds es : List Change) → slice_get w.objects o ≡ Some (EventFd n) → addr + length bytes ≤ length w.memory → NotedAmong cs ds Memory addr (part w.memory addr (length bytes)) → NamesDiffering ds Memory addr (part w.memory addr (length bytes)) bytes
+    → Noted ds es (EventCount o) (Some (Number n)) → memory ≡ overwritten w.memory addr bytes → Keeps world_owns (world_seen w) (world_seen (record (with_body w o (EventFd 0)) { memory = memory })) cs es
+keeps_cleared w o addr n bytes memory cs ds es h within a one k m =
+    subst (λ (xs : List ℕ). Keeps world_owns (world_seen w) (world_seen (record (with_body w o (EventFd 0)) { memory = xs })) cs es) (sym m)
+    (keeps_changed world_owns (world_seen w) (world_seen (with_body w o (EventFd 0))) (world_seen (with_body (world_stored addr bytes w) o (EventFd 0))) cs es
+    (keeps_then world_owns (world_seen w) (world_seen w) (world_seen (with_body w o (EventFd 0))) cs ds es (keeps_memory_bytes w addr (length bytes) cs ds a) (keeps_object w o (EventFd n) (EventFd 0) ds es h (keeps_counter o n 0 ds es k)))
+    (names_memory (with_body w o (EventFd 0)) addr (length bytes) bytes es within refl (λ i e. one i (noted_keeps ds es (EventCount o) (Some (Number n)) k (MemoryByte (addr + i)) e))))
 
-pub keeps_clearing : (w : WorldState) (o addr n : ℕ) (b c : Body) (cs ds es : List Change) → slice_get w.objects o ≡ Some b → NotedAmong cs ds Memory addr (part w.memory addr n) → Keeps (object_owns o) (body_seen b) (body_seen c) ds es → Keeps world_owns (world_seen w) (world_seen (with_body w o c)) cs es
-keeps_clearing w o addr n b c cs ds es h a k = keeps_then world_owns (world_seen w) (world_seen w) (world_seen (with_body w o c)) cs ds es (keeps_memory_bytes w addr n cs ds a) (keeps_object w o b c ds es h k)
-
-pub counter_there : (w : WorldState) (o : ℕ) (b : Body) → slice_get w.objects o ≡ Some b → IsSome (counter_of w o) → IsSome (counter_in b)
-counter_there w o b h k = subst (λ (x : Option Body). IsSome (option_and_then counter_in x)) h k
-
-pub cleared_is : (w : WorldState) (o addr n : ℕ) (a b c : Body) (bytes memory : List ℕ) → slice_get w.objects o ≡ Some a → a ≡ EventFd n → slice_get w.objects o ≡ Some b → bytes ≡ to_le_bytes w64 n → c ≡ on_counter (λ m. 0) b → memory ≡ overwritten w.memory addr bytes → record (with_body w o c) { memory = memory } ≡ world_cleared o addr w
-cleared_is w o addr n a b c bytes memory h e k is d m =
-    let counter : counter_of w o ≡ Some n = ap (option_and_then counter_in) (h ∙ ap Some e) in
-    ap (λ (xs : List ℕ). record (with_body w o c) { memory = xs }) (m ∙ ap (overwritten w.memory addr) (is ∙ sym (ap counter_bytes counter)))
-    ∙ changed_body (on_counter (λ m. 0)) (world_stored addr (counter_bytes (counter_of w o)) w) o b c k d
+pub cleared_is : (w : WorldState) (o addr n : ℕ) (bytes memory : List ℕ) → slice_get w.objects o ≡ Some (EventFd n) → bytes ≡ to_le_bytes w64 n → memory ≡ overwritten w.memory addr bytes → record (with_body w o (EventFd 0)) { memory = memory } ≡ world_cleared o addr w
+cleared_is w o addr n bytes memory h is m =
+    let counter : counter_of w o ≡ Some n = ap (option_and_then counter_in) h in
+    ap (λ (xs : List ℕ). record (with_body w o (EventFd 0)) { memory = xs }) (m ∙ ap (overwritten w.memory addr) (is ∙ sym (ap counter_bytes counter)))
+    ∙ changed_body (on_counter (λ m. 0)) (world_stored addr (counter_bytes (counter_of w o)) w) o (EventFd n) (EventFd 0) h refl

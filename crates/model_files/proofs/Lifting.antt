@@ -16,8 +16,8 @@ use Rattle.places.proofs.SamePlace.{same_place_is}
 use Rattle.model_files.specs.declared.body.Body.{Body}
 use Rattle.model_files.specs.declared.body.Body.TheVariants.{File}
 use Rattle.model_files.specs.Objects.{object_owns, object_in, CanPut, PutsIn}
-use Rattle.model_files.specs.Files.{FileState, FileFormed, overwritten, part}
-use Rattle.model_files.specs.Worlds.{WorldState, bytes_of, world_read, world_owns, world_seen, object_seen, body_seen, kind_of_body, file_in, file_of, on_file, with_file, OneSetup}
+use Rattle.model_files.specs.Files.{FileState, overwritten, part}
+use Rattle.model_files.specs.Worlds.{WorldState, bytes_of, world_read, world_owns, world_seen, object_seen, body_seen, kind_of_body, file_in, file_of, OneSetup}
 
 -- The world with the object of one number replaced.
 abbrev pub with_body : WorldState → ℕ → Body → WorldState
@@ -109,23 +109,11 @@ owns_own (TakenCount y) o h = eq-eqb o y (let e : y ≡ o = cc in sym e)
 owns_own (EventCount y) o h = eq-eqb o y (let e : y ≡ o = cc in sym e)
 owns_own _ o h = absurd cc
 
--- The object that was read is the one with its number.
-pub body_is : (w : WorldState) (o : ℕ) (b : Body) → IsSome (file_of w o) → b ≡ get_or w.objects o b → slice_get w.objects o ≡ Some b
-body_is w o b h r = by (slice_get w.objects o) refl h
-  where
-    by : (x : Option Body) → slice_get w.objects o ≡ x → is_some (option_and_then file_in x) ≡ true → slice_get w.objects o ≡ Some b
-    by None e k = absurd cc
-    by (Some y) e k = e ∙ ap Some (sym (r ∙ get_or_from_slice_get w.objects o y b e))
-
--- Replacing an object by its changed file is `with_file`.
-pub changed_file : (g : FileState → FileState) (w : WorldState) (o : ℕ) (b c : Body) → slice_get w.objects o ≡ Some b → c ≡ on_file g b → with_body w o c ≡ with_file g w o
-changed_file g w o b c h e = ap (λ (bs : List Body). record w { objects = bs }) (ap (slice_set w.objects o) e ∙ sym (updated_set (on_file g) w.objects o b h))
-
 -- Replacing an object by its changed contents is updating the list.
 pub changed_body : (g : Body → Body) (w : WorldState) (o : ℕ) (b c : Body) → slice_get w.objects o ≡ Some b → c ≡ g b → with_body w o c ≡ record w { objects = updated g w.objects o }
 changed_body g w o b c h e = ap (λ (bs : List Body). record w { objects = bs }) (ap (slice_set w.objects o) e ∙ sym (updated_set g w.objects o b h))
 
--- The same as `body_is`, for an object of any kind.
+-- The object that was read is the one with its number.
 pub found_body : {X : Type 0} (f : Body → Option X) (w : WorldState) (o : ℕ) (b : Body) → IsSome (option_and_then f (slice_get w.objects o)) → b ≡ get_or w.objects o b → slice_get w.objects o ≡ Some b
 found_body f w o b h r = by (slice_get w.objects o) refl h
   where
@@ -140,13 +128,6 @@ some_and P (Some x) h = refl
 -- A range given by its end is a part given by its length.
 pub range_is : (xs : List ℕ) (at k : ℕ) → part xs at ((at + k) - at) ≡ part xs at k
 range_is xs at k = ap (λ n. part xs at n) (omega arith)
-
-pub formed_there : (w : WorldState) (o : ℕ) → IsSomeAnd (file_of w o) FileFormed → IsSome (file_of w o)
-formed_there w o h = by (file_of w o) h
-  where
-    by : (x : Option FileState) → IsSomeAnd x FileFormed → is_some x ≡ true
-    by None k = absurd k
-    by (Some f) k = refl
 
 -- ---- Setting a place of an object
 

@@ -1,18 +1,14 @@
 //! The contents of an object: a file, a pipe or an eventfd.
-ghost use Rattle.std.specs.Prelude.{◌≡◌, ◌≤◌, ◌+◌, ◌<◌, ◌^◌, ℕ, IfOk, OnOk, OnErr, IsSome, IsSomeAnd, None, length};
-ghost use Rattle.places.specs.View.{Keeps, named};
-ghost use Rattle.places.specs.declared.place.Place.{Place};
-ghost use Rattle.places.specs.declared.place.Place.TheVariants.{FileByte, DurableByte, PipeByte};
-ghost use Rattle.model_files.specs.Pipes.{put_in, taken_out, GivesOut, TakesIn};
+ghost use Rattle.std.specs.Prelude.{◌≡◌, IfOk, IsSomeAnd};
 ghost use Rattle.places.specs.Masked.{BytesPresent};
 ghost use Rattle.places.specs.Stretched.{kept_of, CanCount};
-ghost use Rattle.model_files.specs.Objects.{CanPut, PutsIn, PutsBack, object_owns};
-ghost use Rattle.model_files.specs.Files.{synced, written, FileFormed};
+ghost use Rattle.model_files.specs.Objects.{CanPut, PutsIn, PutsBack};
+ghost use Rattle.model_files.specs.Pipes.{taken_out, GivesOut};
 
 use crate::file::RegularFile;
 use crate::pipe::PipeBuffer;
 use crate::stock::Stock;
-use places::{At, Place, Recorder, Region, Stretch, Value};
+use places::{At, Place, Region, Stretch, Value};
 use std::alloc::{AllocError, Global};
 
 /// The contents of an object.
@@ -51,7 +47,7 @@ impl At for Body {
 }
 
 impl Body {
-    ghost use Rattle.model_files.specs.Worlds.{body_seen, file_in, pipe_in, stock_in, StockFits, kind_of_body, counter_in, on_file, on_pipe, on_counter};
+    ghost use Rattle.model_files.specs.Worlds.{body_seen, pipe_in, stock_in, StockFits, kind_of_body, on_pipe};
 
     /// Returns a copy.
     pub fn copy(&self, alloc: Global) -> Result<Body, AllocError>
@@ -87,7 +83,8 @@ impl Body {
             Body::Pipe(pipe) => pipe.set(place, value),
             Body::EventFd(counter) => match (place, value) {
                 (Place::EventCount(_), Value::Number(n)) => *counter = n,
-                _ => unreachable!(),
+                // No other value can be put here, so none is.
+                _ => {}
             },
         }
     }
@@ -109,138 +106,14 @@ impl Body {
         }
     }
 
-    /// Writes bytes to a file at an offset. If an allocation fails, the file is unchanged.
-    pub(crate) fn write_at(
-        &mut self,
-        object: u32,
-        offset: u32,
-        others: &[u8],
-        notes: &mut Recorder,
-    ) -> Result<(), AllocError>
-        requires formed { IsSomeAnd (file_in self.old) FileFormed }
-        requires within { offset + length others.now ≤ 65536 }
-        requires fresh { (i : ℕ) → i < length others.now
-            → named notes.old.made (FileByte object (offset + i)) ≡ None }
-        ensures ok { OnOk result (self.new ≡ on_file (written others.now offset) self.old) }
-        ensures err { OnErr result (self.new ≡ self.old) }
-        ensures keeps { Keeps (object_owns object) (body_seen self.old)
-            (body_seen self.new) notes.old.made notes.new.made }
-        ensures named { (p : Place) → named notes.new.made p ≡ None
-            → named notes.old.made p ≡ None }
-        ensures numbers { notes.old.numbers ≤ notes.new.numbers + 1 }
-        ensures completions { notes.old.completions ≤ notes.new.completions }
-        ensures others { notes.old.others ≤ notes.new.others }
-    {
-        match self {
-            Body::File(file) => file.write_at(object, offset, others, notes),
-            _ => unreachable!(),
-        }
-    }
-
-    /// Writes bytes to a pipe. If an allocation fails, the pipe is unchanged.
-    pub(crate) fn push_bytes(
-        &mut self,
-        object: u32,
-        others: &[u8],
-        notes: &mut Recorder,
-    ) -> Result<(), AllocError>
-        requires room { IsSomeAnd (pipe_in self.old) (TakesIn (length others.now)) }
-        requires fresh { (i : ℕ) → i < 65536 → named notes.old.made (PipeByte object i) ≡ None }
-        ensures ok { OnOk result (self.new ≡ on_pipe (put_in others.now) self.old) }
-        ensures err { OnErr result (self.new ≡ self.old) }
-        ensures keeps { Keeps (object_owns object) (body_seen self.old)
-            (body_seen self.new) notes.old.made notes.new.made }
-        ensures named { (p : Place) → named notes.new.made p ≡ None
-            → named notes.old.made p ≡ None }
-        ensures numbers { notes.old.numbers ≤ notes.new.numbers + 1 }
-        ensures completions { notes.old.completions ≤ notes.new.completions }
-        ensures others { notes.old.others ≤ notes.new.others }
-    {
-        match self {
-            Body::Pipe(pipe) => pipe.put_noted(object, others, notes),
-            _ => unreachable!(),
-        }
-    }
-
-    /// Removes the oldest bytes of a pipe.
+    /// Removes the oldest bytes of a pipe. Another object stays as it is.
     pub(crate) fn take(&mut self, count: u32)
         requires there { IsSomeAnd (pipe_in self.old) (GivesOut count) }
         ensures { self.new ≡ on_pipe (taken_out count) self.old }
     {
         match self {
             Body::Pipe(pipe) => pipe.take(count),
-            _ => unreachable!(),
-        }
-    }
-
-    /// Adds to the counter of an eventfd. If an allocation fails, the counter is unchanged.
-    pub(crate) fn add(
-        &mut self,
-        object: u32,
-        number: u64,
-        notes: &mut Recorder,
-    ) -> Result<(), AllocError>
-        requires room { IsSomeAnd (counter_in self.old) (λ n. n + number < 2 ^ 64) }
-        ensures ok { OnOk result (self.new ≡ on_counter (λ n. n + number) self.old) }
-        ensures err { OnErr result (self.new ≡ self.old) }
-        ensures keeps { Keeps (object_owns object) (body_seen self.old)
-            (body_seen self.new) notes.old.made notes.new.made }
-        ensures named { (p : Place) → named notes.new.made p ≡ None
-            → named notes.old.made p ≡ None }
-        ensures numbers { notes.old.numbers ≤ notes.new.numbers + 1 }
-        ensures completions { notes.old.completions ≤ notes.new.completions }
-        ensures others { notes.old.others ≤ notes.new.others }
-    {
-        match self {
-            Body::EventFd(counter) => {
-                notes.note_number(Place::EventCount(object), *counter)?;
-                *counter += number;
-                Ok(())
-            }
-            _ => unreachable!(),
-        }
-    }
-
-    /// Resets the counter of an eventfd to 0. If an allocation fails, the counter is unchanged.
-    pub(crate) fn clear(&mut self, object: u32, notes: &mut Recorder) -> Result<(), AllocError>
-        requires counter { IsSome (counter_in self.old) }
-        ensures ok { OnOk result (self.new ≡ on_counter (λ n. 0) self.old) }
-        ensures err { OnErr result (self.new ≡ self.old) }
-        ensures keeps { Keeps (object_owns object) (body_seen self.old)
-            (body_seen self.new) notes.old.made notes.new.made }
-        ensures named { (p : Place) → named notes.new.made p ≡ None
-            → named notes.old.made p ≡ None }
-        ensures numbers { notes.old.numbers ≤ notes.new.numbers + 1 }
-        ensures completions { notes.old.completions ≤ notes.new.completions }
-        ensures others { notes.old.others ≤ notes.new.others }
-    {
-        match self {
-            Body::EventFd(counter) => {
-                notes.note_number(Place::EventCount(object), *counter)?;
-                *counter = 0;
-                Ok(())
-            }
-            _ => unreachable!(),
-        }
-    }
-
-    /// Makes the contents of a file durable. If an allocation fails, the file is unchanged.
-    pub(crate) fn sync(&mut self, object: u32, notes: &mut Recorder) -> Result<(), AllocError>
-        requires file { IsSome (file_in self.old) }
-        requires fresh { (i : ℕ) → i < 65536 → named notes.old.made (DurableByte object i) ≡ None }
-        ensures ok { OnOk result (self.new ≡ on_file synced self.old) }
-        ensures err { OnErr result (self.new ≡ self.old) }
-        ensures keeps { Keeps (object_owns object) (body_seen self.old)
-            (body_seen self.new) notes.old.made notes.new.made }
-        ensures named { (p : Place) → named notes.new.made p ≡ None
-            → named notes.old.made p ≡ None }
-        ensures numbers { notes.old.numbers ≤ notes.new.numbers + 1 }
-        ensures completions { notes.old.completions ≤ notes.new.completions }
-        ensures others { notes.old.others ≤ notes.new.others }
-    {
-        match self {
-            Body::File(file) => file.sync_noted(object, notes),
-            _ => unreachable!(),
+            Body::File(_) | Body::EventFd(_) => {}
         }
     }
 }

@@ -161,7 +161,8 @@ impl RegularFile {
             }
             (Place::FileLength(_), Value::Number(n)) => self.len = n as u32,
             (Place::DurableLength(_), Value::Number(n)) => self.durable_len = n as u32,
-            _ => unreachable!(),
+            // No other place can be set, so any is left alone.
+            _ => {}
         }
     }
 

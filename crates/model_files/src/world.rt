@@ -25,7 +25,8 @@ use places::{At, Descriptor, Object, Part, Place, Recorder, Region, Stretch, Val
 use std::alloc::{AllocError, Global};
 use std::marker::Model;
 
-/// The memory, the objects and the descriptors.
+/// The memory, the objects and the descriptors. A transfer needs an object of its own kind, and with
+/// any other it changes nothing.
 #[derive(Drop)]
 pub struct World {
     memory: Vec<u8>,
@@ -105,7 +106,8 @@ impl Part for World {
             → world_seen self.new q ≡ put_at (world_seen self.old) place value q }
         ensures setup { OneSetup self.old self.new }
     {
-        let Some(value) = value else { unreachable!() };
+        // No place can be made absent, and no other place can be set: both change nothing.
+        let Some(value) = value else { return };
         if let Some(object) = object_in(place) {
             self.objects[object as usize].set(place, value);
             return;
@@ -118,7 +120,7 @@ impl Part for World {
             (Place::OpenMark(fd), Value::Number(n)) => {
                 self.descriptors[(fd - 3) as usize].is_open = n == 1
             }
-            _ => unreachable!(),
+            _ => {}
         }
     }
 }
@@ -243,6 +245,7 @@ impl World {
     {
         match self.memory[address as usize..].first_chunk::<8>() {
             Some(bytes) => u64::from_le_bytes(*bytes),
+            // The address leaves eight bytes of the memory.
             None => unreachable!(),
         }
     }
@@ -309,7 +312,7 @@ impl World {
     {
         let (from, to, count) = (offset as usize, address as usize, count as usize);
         let Body::File(file) = &self.objects[object as usize] else {
-            unreachable!()
+            return Ok(());
         };
         let others = &file.bytes()[from..from + count];
         let old = &self.memory[to..to + count];
@@ -345,7 +348,10 @@ impl World {
     {
         let from = address as usize;
         let others = &self.memory[from..from + count as usize];
-        self.objects[object as usize].write_at(object, offset, others, notes)
+        let Body::File(file) = &mut self.objects[object as usize] else {
+            return Ok(());
+        };
+        file.write_at(object, offset, others, notes)
     }
 
     /// Makes the whole file durable (fsync(2)). If an allocation fails, the world is unchanged.
@@ -362,7 +368,10 @@ impl World {
         ensures completions { notes.old.completions ≤ notes.new.completions }
         ensures others { notes.old.others ≤ notes.new.others }
     {
-        self.objects[object as usize].sync(object, notes)
+        let Body::File(file) = &mut self.objects[object as usize] else {
+            return Ok(());
+        };
+        file.sync_noted(object, notes)
     }
 
     /// Moves the `count` oldest bytes of a pipe into memory (pipe(7)). If an allocation fails, the
@@ -402,7 +411,7 @@ impl World {
             (oldest count (pipe_of self.old object)) self.old }
     {
         let Body::Pipe(pipe) = &self.objects[object as usize] else {
-            unreachable!()
+            return;
         };
         let (first, second) = pipe.oldest(count as usize);
         let to = address as usize;
@@ -433,7 +442,7 @@ impl World {
         ensures others { notes.old.others ≤ notes.new.others }
     {
         let Body::Pipe(pipe) = &self.objects[object as usize] else {
-            unreachable!()
+            return Ok(());
         };
         let (first, second) = pipe.oldest(count as usize);
         self.note_memory(address, first, notes)?;
@@ -488,7 +497,10 @@ impl World {
     {
         let start = address as usize;
         let bytes = &self.memory[start..start + count as usize];
-        self.objects[object as usize].push_bytes(object, bytes, notes)
+        let Body::Pipe(pipe) = &mut self.objects[object as usize] else {
+            return Ok(());
+        };
+        pipe.put_noted(object, bytes, notes)
     }
 
     /// Adds a number to the counter of an eventfd (eventfd(2)). If an allocation fails, the counter
@@ -510,7 +522,12 @@ impl World {
         ensures completions { notes.old.completions ≤ notes.new.completions }
         ensures others { notes.old.others ≤ notes.new.others }
     {
-        self.objects[object as usize].add(object, number, notes)
+        let Body::EventFd(counter) = &mut self.objects[object as usize] else {
+            return Ok(());
+        };
+        notes.note_number(Place::EventCount(object), *counter)?;
+        *counter += number;
+        Ok(())
     }
 
     /// Stores the eight bytes of an eventfd's counter in memory, in little-endian order, and resets
@@ -534,12 +551,13 @@ impl World {
         ensures completions { notes.old.completions ≤ notes.new.completions }
         ensures others { notes.old.others ≤ notes.new.others }
     {
-        let Body::EventFd(counter) = &self.objects[object as usize] else {
-            unreachable!()
+        let Body::EventFd(counter) = self.objects[object as usize] else {
+            return Ok(());
         };
         let bytes = counter.to_le_bytes();
         self.note_memory(address, &bytes, notes)?;
-        self.objects[object as usize].clear(object, notes)?;
+        notes.note_number(Place::EventCount(object), counter)?;
+        self.objects[object as usize] = Body::EventFd(0);
         overwrite(&mut self.memory, address as usize, &bytes);
         Ok(())
     }
@@ -565,7 +583,7 @@ impl World {
     {
         let index = (fd - 3) as usize;
         let Some(old) = self.descriptors[index].position else {
-            unreachable!()
+            return Ok(());
         };
         notes.note_number(Place::Position(fd), old)?;
         self.descriptors[index].position = Some(position);

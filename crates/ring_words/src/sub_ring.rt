@@ -111,7 +111,8 @@ impl Part for SubRing {
             (Place::SubmissionDropped, Some(Value::Number(n))) => self.dropped = n as u32,
             (Place::Array(i), Some(Value::Number(n))) => self.array[i as usize] = n as u32,
             (Place::Slot(i), Some(Value::Entry(entry))) => self.slots[i as usize] = entry,
-            _ => unreachable!(),
+            // `can_put` allows no other place, and any would be left alone.
+            _ => {}
         }
     }
 }

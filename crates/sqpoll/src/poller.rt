@@ -44,7 +44,8 @@ impl Part for Poller {
     {
         match (place, value) {
             (Place::PollerStage, Some(Value::Awake(awake))) => *self = Poller::from_awake(awake),
-            _ => unreachable!(),
+            // `can_put` allows no other place, and any would be left alone.
+            _ => {}
         }
     }
 }

@@ -1,8 +1,8 @@
 use Rattle.std.proofs.Common.{◌≡◌, ◌+◌, ◌-◌, ◌≤◌, ◌∙◌, length, arith}
 use Rattle.std.specs.Prelude.{IsSome}
 use Rattle.model_files.specs.Files.{part}
-use Rattle.model_files.specs.Worlds.{WorldState, file_of}
-use Rattle.model_files.proofs.Lifting.{body_is, read_is}
+use Rattle.model_files.specs.Worlds.{WorldState, file_in, file_of}
+use Rattle.model_files.proofs.Lifting.{found_body, read_is}
 use Rattle.model_files.proofs.Noting.{length-part}
 use Rattle.model_files.proofs.Remembering.{keeps_memory, keeps_memory_bytes}
 use Rattle.model_files.proofs.world.World.read_at.Goals as goal
@@ -11,7 +11,7 @@ pub returns-clause-ok : goal.returns-clause-ok
 returns-clause-ok c =
     let w : WorldState = record { memory = c.self.inside.memory.items; objects = c.self.inside.objects.items; descriptors = c.self.inside.descriptors.items } in
     let there : IsSome (file_of w c.args.object) = rw (← c.self.view_is) at c.requires.file in
-    let found = body_is w c.args.object c.index.result.now there c.index.ensures in
+    let found = found_body file_in w c.args.object c.index.result.now there c.index.ensures in
     rw (← c.self.view_is)
     (read_is w c.args.object c.args.offset c.args.count c.args.address c.index.result.now c.in-File.file c.bytes.result.now c.overwrite.new.bytes.items found c.in-File.is c.bytes.ensures.value c.overwrite.ensures.next)
 
