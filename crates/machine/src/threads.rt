@@ -167,7 +167,8 @@ impl Part for Threads {
                 let thread = &mut self.threads[t as usize];
                 thread.got = got;
             }
-            _ => unreachable!(),
+            // `can_put` allows no other place, and any would be left alone.
+            _ => {}
         }
     }
 }

@@ -167,7 +167,8 @@ impl Machine {
                     poller.put(place, value);
                 }
             }
-            _ => unreachable!(),
+            // `can_put` allows no other place, and any would be left alone.
+            _ => {}
         }
     }
 }

@@ -173,6 +173,7 @@ impl Backlog {
     {
         match notes.note_number(Place::BacklogFront, self.front as u64) {
             Ok(()) => self.front += count,
+            // The memory is reserved already.
             Err(_) => unreachable!(),
         }
     }

@@ -20,6 +20,7 @@ pub(crate) fn note_word(notes: &mut Recorder, place: Place, old: u32)
 {
     match notes.note_number(place, old as u64) {
         Ok(()) => {}
+        // The memory is reserved already.
         Err(_) => unreachable!(),
     }
 }
@@ -35,6 +36,7 @@ pub(crate) fn note_slot(notes: &mut Recorder, slot: u32, old: Cqe)
 {
     match notes.note_completion(slot, old) {
         Ok(()) => {}
+        // The memory is reserved already.
         Err(_) => unreachable!(),
     }
 }

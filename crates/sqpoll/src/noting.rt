@@ -16,6 +16,7 @@ pub(crate) fn note_stage(notes: &mut Recorder, awake: bool)
 {
     match notes.note(Place::PollerStage, Some(Value::Awake(awake))) {
         Ok(()) => {}
+        // The memory is reserved already.
         Err(_) => unreachable!(),
     }
 }
