@@ -87,6 +87,7 @@ fn accept_all<'s, E, L: Ledger + Send + Sync + 's, R: Wait + Sync + 's>(
         start(scope, rt, alloc, script, lock, permits, &mut pass, stream);
         begun = begun.saturating_add(1);
     }
+    // `forever` doesn't end.
     unreachable!()
 }
 
