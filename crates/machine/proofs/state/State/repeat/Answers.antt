@@ -4,7 +4,7 @@ use Rattle.machine.specs.Whole.{WellFormed}
 use Rattle.machine.proofs.Formed.{formed_after}
 use Rattle.machine.proofs.PuttingBack.{back_from_exact}
 use Rattle.machine.proofs.Linking.{back_from_keeps, none_named}
-use Rattle.machine.proofs.state.repeating.State.repeat.Goals as goal
+use Rattle.machine.proofs.state.State.repeat.Goals as goal
 
 pub invariant_of-self : goal.invariant_of-self
 invariant_of-self c =
