@@ -140,9 +140,9 @@ def try_situation(room, situation):
     """Returns the number of runs that passed, the number of failures that the call reported, and a note."""
     expected = Expected(room, situation)
     check_against_others(room, situation, expected)
-    if situation.quiet:
-        return try_quiet(room, situation, expected)
     count = expected.count
+    if situation.quiet or situation.spares and count == 0:
+        return try_quiet(room, situation, expected)
     require(count > 0, "it allocates nothing")
     numbers, runs, answers = numbers_of(count), 3, []
     for how, most in (("one", count), ("all", MOST_OF_ALL)):

@@ -161,8 +161,8 @@ class Situation:
     quiet    the call allocates nothing
     rising   the answers name events, and a later allocation names no earlier event
     closes   after a failure the session is closed
-    spares   the call may succeed without an allocation: the notes of a step reuse the memory of an earlier step, and its
-             record can keep theirs
+    spares   the call may succeed without an allocation, or make none: the notes of a step reuse the memory of an earlier
+             step, and its record keeps theirs, or holds a few bytes itself
     """
 
     def __init__(self, call, over, start=0, goal=0, lines=(), answers=((1, 0),), asked=None, quiet=False, rising=False,
@@ -201,7 +201,7 @@ def calls_of_states():
 
 def calls_of_walkers():
     # The allocations that must succeed: those of the lists that grow, and of copies of the state at 4, 8 and 12.
-    yield Situation("extend", "twelve_ticks", 2, 1, answers=[(2, event) for event in (0, 1, 2, 5, 6, 9)], rising=True)
+    yield Situation("extend", "twelve_ticks", 2, 1, answers=[(2, event) for event in (1, 2, 5, 6, 9)], rising=True)
     yield Situation("goto", "ticks", 9, 5, answers=((2, 0),))
     yield Situation("goto", "ticks", 10, 9, quiet=True)
     yield Situation("back", "ticks", 10, quiet=True)
@@ -210,8 +210,9 @@ def calls_of_walkers():
     for at in (49, 6):
         yield Situation("rcont", "counter", at)
     yield Situation("rcont", "counter", 8, quiet=True)
-    for at in (0, 7, 9):
+    for at in (0, 7, 12):
         yield Situation("cont", "counter", at)
+    yield Situation("cont", "counter", 9, quiet=True)
 
 
 def calls_of_sessions():

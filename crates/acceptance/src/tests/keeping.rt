@@ -6,11 +6,8 @@ use machine::{Event, State};
 use std::alloc::{AllocError, Global};
 use std::test::Fail;
 
-/// The size of a record without notes.
-const LEAST: usize = 40;
-
-/// The maximum size of the record of a NOP's completion.
-const END_OF_A_NOP: usize = 128;
+/// The size of a record with at most 30 packed bytes, which it holds itself.
+const LEAST: usize = 48;
 
 /// The maximum size of the record of a completion or a thread's step, without the bytes that it
 /// names.
@@ -117,8 +114,7 @@ fn are_events_little(alloc: Global) -> Result<bool, Fail> {
     let finish = kept(alloc, ONE_NOP, &REQUEST_AND_STEP[..5])?;
     let write = kept(alloc, PAGE_WRITTEN_AND_READ, &TWO_REQUESTS[..7])?;
     let read = kept(alloc, PAGE_WRITTEN_AND_READ, &TWO_REQUESTS)?;
-    let is_finish_little = finish > LEAST && finish <= END_OF_A_NOP;
-    Ok(tick == LEAST && is_finish_little && write <= 512 && read <= 512)
+    Ok(tick == LEAST && finish == LEAST && write <= 512 && read <= 512)
 }
 
 #[test]
