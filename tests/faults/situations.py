@@ -210,9 +210,8 @@ def calls_of_walkers():
     for at in (49, 6):
         yield Situation("rcont", "counter", at)
     yield Situation("rcont", "counter", 8, quiet=True)
-    for at in (0, 7, 12):
+    for at in (0, 7, 9, 12):
         yield Situation("cont", "counter", at)
-    yield Situation("cont", "counter", 9, quiet=True)
 
 
 def calls_of_sessions():
