@@ -90,7 +90,7 @@ summed_parts a b c d ns cs rs bs os sa ab sb bc sc cd sd =
     let completions = summed_more c d cs cd sc in
     summed_append d (ns ++ (cs ++ (rs ++ bs))) os (summed_append d ns (cs ++ (rs ++ bs)) numbers (summed_append d cs (rs ++ bs) completions (summed_append d rs bs sd bytes))) odd
 
--- ---- What a summary tells
+-- ---- What a summary says
 
 -- A place that the changes name has its bit.
 summed_named : (a : ℕ) (cs : List Change) (p : Place) → Summed a cs → is_some (named cs p) ≡ true → bit_at a (bit_of p) ≡ 1
