@@ -265,6 +265,7 @@ fn append(olds: &mut Vec<u8>, gone: &mut Vec<u64>, bytes: &[u8]) -> Result<(), A
     make_room(gone, len)?;
     match olds.extend_from_slice(bytes) {
         Ok(()) => Ok(()),
+        // The memory is reserved above.
         Err(_) => unreachable!(),
     }
 }

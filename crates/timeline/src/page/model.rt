@@ -52,7 +52,7 @@ function from_hex(text) {
   return bytes;
 }
 
-// Each byte in hex, and as text: a dot stands for each that is no printable ASCII character.
+// Each byte in hex, and as text: a dot for each that is no printable ASCII character.
 const BYTES = [...Array(256).keys()];
 const HEX = BYTES.map((byte) => byte.toString(16).padStart(2, '0'));
 const TEXT = BYTES.map((byte) => (byte >= 32 && byte < 127 ? String.fromCharCode(byte) : '.'));
