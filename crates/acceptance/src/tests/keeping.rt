@@ -7,7 +7,7 @@ use std::alloc::{AllocError, Global};
 use std::test::Fail;
 
 /// The size of a record with at most 30 packed bytes, which it holds itself.
-const LEAST: usize = 48;
+const LEAST: usize = 56;
 
 /// The maximum size of the record of a completion or a thread's step, without the bytes that it
 /// names.
