@@ -135,8 +135,8 @@ const labels_width = () => (size.width < 560 ? 118 : 196);
 const plot_width = () => Math.max(40, size.width - labels_width());
 const last_moment = () => view.left + plot_width() / view.column;
 
-function is_in_view(row) {
-  return row.queued <= last_moment() && (row.ended === null || row.ended >= view.left - 1);
+function is_in_view(row, last) {
+  return row.queued <= last && (row.ended === null || row.ended >= view.left - 1);
 }
 
 // Returns whether one of some numbers in order is from one number to another.
@@ -163,7 +163,7 @@ const passes_filter = (lane) => !view.thread || (lane.row ? [view.thread, null].
 
 // Returns the lanes that are drawn, each with its top, and how many are folded away.
 function layout() {
-  const lanes = [];
+  const lanes = [], last = last_moment();
   let top = AXIS, folded = 0;
   const add = (lane) => {
     lanes.push(Object.assign(lane, {top}));
@@ -176,7 +176,7 @@ function layout() {
   const head_count = lanes.length, head_height = top + 6;
   top = head_height;
   for (const lane of row_lanes.filter(passes_filter)) {
-    if (view.folds && !is_in_view(lane.row)) folded += 1;
+    if (view.folds && !is_in_view(lane.row, last)) folded += 1;
     else add(lane);
   }
   return {lanes, head_count, head_height, height: top + (folded ? ROW : 8), folded, index: new Map(lanes.map((it, k) => [it.key, k]))};

@@ -49,10 +49,12 @@ function from_hex(text) {
   return bytes;
 }
 
-const hex_of = (bytes) => Array.from(bytes, (byte) => byte.toString(16).padStart(2, '0')).join('');
-
-// Returns bytes as text, with a dot for each that is no printable ASCII character.
-const text_of = (bytes) => Array.from(bytes, (byte) => (byte >= 32 && byte < 127 ? String.fromCharCode(byte) : '.')).join('');
+// Each byte in hex, and as text: a dot stands for each that is no printable ASCII character.
+const BYTES = [...Array(256).keys()];
+const HEX = BYTES.map((byte) => byte.toString(16).padStart(2, '0'));
+const TEXT = BYTES.map((byte) => (byte >= 32 && byte < 127 ? String.fromCharCode(byte) : '.'));
+const hex_of = (bytes) => Array.from(bytes, (byte) => HEX[byte]).join('');
+const text_of = (bytes) => Array.from(bytes, (byte) => TEXT[byte]).join('');
 
 // ---- entries, completions and results
 

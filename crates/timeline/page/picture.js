@@ -230,7 +230,7 @@ function lane_body(lane, y, low, high) {
   if (lane.spans) return waits(lane, y, low, high);
   if (lane.part !== undefined) return graph(lane, y, low, high);
   if (lane.key === 'clock') return clock(y, low, high);
-  return is_in_view(lane.row) ? bar(lane.row, y) : '';
+  return is_in_view(lane.row, last_moment()) ? bar(lane.row, y) : '';
 }
 
 function lane_label(lane, k, y) {

@@ -140,17 +140,21 @@ const DUMP_LINE = 16;
 const most_lines = () => (view.raw ? 256 : 16);
 const line_of = (index) => Math.floor(index / DUMP_LINE);
 
-// Returns lines of 16 bytes in hex and as text, with the changed ones marked.
-function dump(bytes, lines, is_changed) {
-  return element('pre', {class: 'dump'}, lines.map((line) => {
-    const start = line * DUMP_LINE, all = Array.from(bytes.subarray(start, Math.min(bytes.length, start + DUMP_LINE)));
-    const marked = (text, k) => (is_changed(start + k) ? element('mark', {}, plain(text)) : plain(text));
-    const hex = all.map((byte, k) => (k && k % 4 === 0 ? ' ' : '') + marked(byte.toString(16).padStart(2, '0'), k)).join('');
-    const width = (count) => 2 * count + Math.max(0, Math.ceil(count / 4) - 1);
-    const text = all.map((byte, k) => marked(text_of([byte]), k)).join('');
-    return `<span class="faint">${String(start).padStart(5)}</span>  ${hex}${' '.repeat(width(DUMP_LINE) - width(all.length))}  ${text}`;
-  }).join('\n'));
+const ESCAPED = TEXT.map(plain);
+
+// Returns a line of 16 bytes in hex and as text, with the changed ones marked.
+function dump_line(bytes, line, is_changed) {
+  const start = line * DUMP_LINE, end = Math.min(bytes.length, start + DUMP_LINE), width = 2 * DUMP_LINE + 3;
+  let hex = '', text = '', pad = width;
+  for (let index = start; index < end; index += 1) {
+    const byte = bytes[index], is_marked = is_changed(index), space = index > start && index % 4 === 0 ? ' ' : '';
+    hex += space + (is_marked ? `<mark>${HEX[byte]}</mark>` : HEX[byte]);
+    text += is_marked ? `<mark>${ESCAPED[byte]}</mark>` : ESCAPED[byte];
+    pad -= space.length + 2;
+  }
+  return `<span class="faint">${String(start).padStart(5)}</span>  ${hex}${' '.repeat(pad)}  ${text}`;
 }
+const dump = (bytes, lines, is_changed) => element('pre', {class: 'dump'}, lines.map((line) => dump_line(bytes, line, is_changed)).join('\n'));
 
 // Returns the numbers of the lines to show: those with changed bytes, and the first ones.
 function lines_of(runs, region, size_of_region) {
@@ -162,7 +166,11 @@ function lines_of(runs, region, size_of_region) {
   return [...lines].sort((one, other) => one - other);
 }
 
-const are_equal = (one, other) => one.length === other.length && one.every((byte, k) => byte === other[k]);
+function are_equal(one, other) {
+  let k = 0;
+  while (k < one.length && one[k] === other[k]) k += 1;
+  return one.length === other.length && k === one.length;
+}
 
 function contents_html(bytes, region, runs) {
   const lines = lines_of(runs, region, bytes.length), more = Math.ceil(bytes.length / DUMP_LINE) - lines.length;
