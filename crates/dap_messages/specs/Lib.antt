@@ -1,0 +1,9 @@
+pub mod Fields
+pub mod Commands
+pub mod Faults
+pub mod Values
+pub mod Views
+pub mod Words
+pub mod Arguments
+pub mod Requests
+pub mod Messages
