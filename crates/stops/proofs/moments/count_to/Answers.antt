@@ -1,0 +1,10 @@
+use Rattle.std.proofs.Common.{leb, leb-true, arith, rules}
+use Rattle.std.proofs.lemmas.Bool.Decides.{nat_tests}
+use Rattle.std.proofs.lemmas.List.Sorted.{IsPartitionPoint-from_clause, IsPartitionedBy-leb}
+use Rattle.stops.proofs.moments.count_to.Goals as goal
+
+pub returns-clause-point : goal.returns-clause-point
+returns-clause-point c =
+    let parted = IsPartitionedBy-leb (λ m. m) _ c.args.at c.requires in
+    let point = IsPartitionPoint-from_clause (λ m. leb m c.args.at) _ _ c.partition_point.ensures.partitioned parted (λ a r q k. search rules) in
+    (λ k d x y. leb-true _ _ (point.0 k d x y), λ k d x y. let e = point.1 k d x y in grind (arith, nat_tests))

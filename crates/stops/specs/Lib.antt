@@ -1,0 +1,4 @@
+pub mod Nearest
+pub mod StopPoints
+pub mod Landings
+pub mod SiteMoments
