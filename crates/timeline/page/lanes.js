@@ -159,7 +159,7 @@ function is_used(lane) {
 }
 
 // Returns whether a lane is one of the thread that is chosen, if one is. Who submitted a row before the first moment is not known.
-const passes_filter = (lane) => !view.thread || (lane.row ? [view.thread, null].includes(lane.row.by) : !lane.thread || lane.thread === view.thread);
+const passes_filter = (lane) => !view.thread || (lane.row ? [view.thread, 'poller', null].includes(lane.row.by) : !lane.thread || lane.thread === view.thread);
 
 // Returns the lanes that are drawn, each with its top, and how many are folded away.
 function layout() {

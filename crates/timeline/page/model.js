@@ -222,6 +222,18 @@ const phase_of = (row, moment) => {
 const is_alive = (row, moment) => ['queued', 'issued'].includes(phase_of(row, moment));
 const rows_alive = (drawn, moment) => drawn.rows.filter((row) => is_alive(row, moment));
 
+// ---- dumps
+
+const DUMP_LINE = 16;
+const line_of = (index) => Math.floor(index / DUMP_LINE);
+
+// Returns the lines of a dump of the memory that have bytes of a buffer, at most `most` of them.
+function lines_of_buffer(first, count, most) {
+  const end = Math.min(REGION_SIZE, first + Math.max(1, count)), lines = [];
+  for (let line = line_of(first); line * DUMP_LINE < end && lines.length < most; line += 1) lines.push(line);
+  return lines;
+}
+
 // ---- search
 
 // Returns whether a change has this place, or bytes that include it.
@@ -240,12 +252,12 @@ const has_user = (step, user) => new RegExp(`\\bud ${user}(?!\\d)`).test(step.do
 // Returns the rows and a test of events that a query is about. A query is 'row 12', 'ud 7', an operation, an error, a
 // place, a kind of finding, or any words of an event.
 function meaning_of(drawn, query) {
-  const [word, number] = query.split(/\s+/), upper = query.toUpperCase();
-  if (word === 'row') {
-    return {rows: (row) => row.row === Number(number), test: (step) => step.changes.some((it) => it[0] === query)};
+  const [word, number] = query.toLowerCase().split(/\s+/), upper = query.toUpperCase(), has_number = /^\d+$/.test(number);
+  if (word === 'row' && has_number) {
+    return {rows: (row) => row.row === Number(number), test: (step) => step.changes.some((it) => it[0] === `row ${number}`)};
   }
-  if (word === 'ud') return {rows: (row) => row.user === number, test: (step) => has_user(step, number)};
-  const error = Object.keys(ERRORS).find((it) => ERRORS[it] === upper);
+  if (word === 'ud' && has_number) return {rows: (row) => row.user === number, test: (step) => has_user(step, number)};
+  const error = Object.keys(ERRORS).find((it) => ERRORS[it] === upper || `-${it}` === query);
   if (error !== undefined) {
     const value = `-${error}`;
     return {
@@ -271,6 +283,7 @@ function found_by(drawn, query) {
   drawn.steps.forEach((step, k) => {
     if (meaning.test(step)) found.add(drawn.from + k);
   });
-  for (const it of drawn.findings.filter((finding) => finding.kind === text)) found.add(it.moment);
-  return [...found].filter((index) => index >= drawn.from && index <= drawn.to).sort((one, other) => one - other);
+  const drawn_events = [...found].filter((index) => index >= drawn.from && index < drawn.to);
+  const moments = drawn.findings.filter((finding) => finding.kind === text).map((it) => it.moment);
+  return [...new Set([...drawn_events, ...moments.filter((it) => it >= drawn.from && it <= drawn.to)])].sort((one, other) => one - other);
 }

@@ -104,7 +104,8 @@ function finding_groups(x_of_finding, low, high) {
 
 function finding_mark({x, all}, y) {
   const is_fault = all.some((it) => it.fault), at = round(x);
-  const text = all.map((it) => `${it.kind} at ${it.moment}: ${it.text}`).join('\n');
+  const shown_texts = all.slice(0, 12).map((it) => `${it.kind} at ${it.moment}: ${it.text}`);
+  const text = [...shown_texts, ...(all.length > 12 ? [`and ${all.length - 12} more`] : [])].join('\n');
   const label = `${all.length > 1 ? `${all.length} findings` : all[0].kind} at ${all[0].moment}`;
   const number = all.length > 1 ? element('text', {class: 'count', x: at + 7, y: y + 11}, all.length) : '';
   return element('g', {role: 'img', 'aria-label': plain(label), 'data-moment': all[0].moment},

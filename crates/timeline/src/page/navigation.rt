@@ -116,8 +116,8 @@ function fit() {
 function search(direction) {
   const query = by_id('search').value;
   if (query !== view.query) {
-    view.query = query;
     view.found = found_by(run, query);
+    view.query = query;
     view.is_found = new Set(view.found);
   }
   const here = view.found.includes(view.moment), next = direction < 0 ? view.moment - 1 : view.moment + (view.asked === query && here ? 1 : 0);
@@ -248,6 +248,10 @@ picture.addEventListener('pointerup', (e) => {
   }
 });
 
+picture.addEventListener('pointercancel', () => {
+  drag = null;
+});
+
 function move_to(e) {
   const box = overview.getBoundingClientRect(), part = (e.clientX - box.left) / Math.max(1, box.width);
   view.left = from + part * (to - from) - plot_width() / view.column / 2;
@@ -271,7 +275,7 @@ overview.addEventListener('pointermove', (e) => {
 
 by_id('go').addEventListener('submit', (e) => {
   e.preventDefault();
-  pick(Number(by_id('moment').value));
+  if (by_id('moment').value.trim()) pick(Number(by_id('moment').value));
   main.focus();
 });
 by_id('seek').addEventListener('submit', (e) => {

@@ -23,11 +23,15 @@ function value_html(place, value) {
 
 // ---- findings
 
+// The most findings in the list, and above the state.
+const MOST_FINDINGS = 500, MOST_HERE = 12;
+
 function findings_html() {
   if (!findings.length) return paragraph('No findings.', 'faint');
-  return element('ol', {}, findings.map((it, k) => element('li', {}, element('button', {
+  const more = findings.length > MOST_FINDINGS ? paragraph(`and ${findings.length - MOST_FINDINGS} more`, 'faint') : '';
+  return element('ol', {}, findings.slice(0, MOST_FINDINGS).map((it, k) => element('li', {}, element('button', {
     type: 'button', class: `finding ${it.fault ? 'is_fault' : 'is_note'}`, 'data-finding': k, 'data-moment': it.moment,
-  }, `<b>${plain(it.kind)}</b> <span class="faint">at ${it.moment}, ${it.fault ? 'fault' : 'note'}</span><span class="text">${plain(it.text)}</span>`))).join(''));
+  }, `<b>${plain(it.kind)}</b> <span class="faint">at ${it.moment}, ${it.fault ? 'fault' : 'note'}</span><span class="text">${plain(it.text)}</span>`))).join('')) + more;
 }
 
 // Marks the findings at the moment in the list, and brings the first fault or note of them into view.
@@ -135,10 +139,8 @@ function rows_html(state) {
 const changed_runs = (step) => (step ? step.changes : []).map(([place]) => bytes_at(place)).filter((it) => it);
 const has_byte = (runs, region, index) => runs.some((it) => it.region === region && it.first <= index && index <= it.last);
 
-const DUMP_LINE = 16;
 // The most lines of a file or a pipe that are shown.
 const most_lines = () => (view.raw ? 256 : 16);
-const line_of = (index) => Math.floor(index / DUMP_LINE);
 
 const ESCAPED = TEXT.map(plain);
 
@@ -210,9 +212,7 @@ function objects_html(state, runs) {
 function memory_lines(state, runs) {
   const lines = new Set();
   const add = (first, count) => {
-    for (let line = line_of(first); line <= line_of(first + Math.max(1, count) - 1); line += 1) {
-      if (line >= 0 && line < REGION_SIZE / DUMP_LINE && lines.size < 2 * most_lines()) lines.add(line);
-    }
+    for (const line of lines_of_buffer(first, count, 2 * most_lines() - lines.size)) lines.add(line);
   };
   for (const it of runs.filter((changed) => changed.region === 'mem')) add(it.first, Math.min(256, it.last - it.first + 1));
   for (const row of rows_alive(run, state.moment)) {
@@ -253,7 +253,8 @@ function here_html(next) {
   const text = next ? `Moment ${view.moment}: before event ${view.moment}, ${next.does}` : `Moment ${view.moment}: the end of this part`;
   const here = findings.filter((it) => it.moment === view.moment).sort((one, other) => other.fault - one.fault);
   return element('h2', {}, plain(text)) + `<p class="faint">${code(`goto ${view.moment}`)} shows this state in a session.</p>`
-    + here.map((it) => element('p', {class: `here ${it.fault ? 'is_fault' : 'is_note'}`}, `<b>${plain(it.kind)}</b> ${plain(it.text)}`)).join('');
+    + here.slice(0, MOST_HERE).map((it) => element('p', {class: `here ${it.fault ? 'is_fault' : 'is_note'}`}, `<b>${plain(it.kind)}</b> ${plain(it.text)}`)).join('')
+    + (here.length > MOST_HERE ? paragraph(`and ${here.length - MOST_HERE} more`, 'faint') : '');
 }
 
 function show_panel() {
