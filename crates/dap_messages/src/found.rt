@@ -20,7 +20,8 @@ pub struct Found<'a> {
 
 // Counts null as missing.
 fn present(found: Option<&Value>) -> Option<&Value>
-    ensures { option_map (λ v. view v.now) result ≡ present (option_map (λ v. view v.now) found.entry) }
+    ensures { option_map (λ v. view v.now) result
+        ≡ present (option_map (λ v. view v.now) found.entry) }
 {
     match found {
         Some(value) => if value.is_null() { None } else { Some(value) },
@@ -126,7 +127,8 @@ impl<'a> Found<'a> {
 
     /// Reads an optional text.
     pub fn text_if_any(&self, alloc: Global, field: Field) -> Result<Option<Text>, RequestFault>
-        ensures { Gives result (given None (λ d. option_map Some (as_str d)) field (data_in self.now)) }
+        ensures { Gives result (given None (λ d. option_map Some (as_str d)) field
+            (data_in self.now)) }
     {
         let Some(value) = self.member(field).get() else {
             return Ok(None);

@@ -3,7 +3,7 @@
 use crate::text::Text;
 use places::Items;
 
-/// What an editor says about itself: "Initialize Request".
+/// How an editor counts lines and columns, and names files: "Initialize Request".
 #[derive(Clone, Copy)]
 pub struct InitializeArguments {
     pub lines_start_at_1: bool,

@@ -1,0 +1,137 @@
+//! Splits a JSON text into its values, byte by byte. It expects a valid text.
+
+use crate::span::Span;
+
+/// The number of levels whose values have a range: the document, its members, their items, and
+/// the items of those.
+const LEVELS: usize = 4;
+
+/// Where a walk is.
+#[derive(Clone, Copy)]
+enum Within {
+    /// Outside of strings, numbers and words.
+    Plain,
+    /// In a number or a word.
+    Scalar,
+    String,
+    /// In a string, after a backslash.
+    Escape,
+}
+
+/// What ends at a byte.
+#[derive(Clone, Copy)]
+pub(crate) enum Ended {
+    Nothing,
+    Key(Span),
+    /// The value of a member of the document.
+    Value(Span),
+    /// An item of a member's list.
+    Item(Span),
+    /// An item of such an item.
+    Inner(Span),
+}
+
+/// A walk over a text.
+#[derive(Clone, Copy)]
+pub(crate) struct Walk {
+    within: Within,
+    /// The number of lists and objects that are open.
+    depth: usize,
+    /// The offset at which the last value of each level began.
+    starts: [usize; LEVELS],
+    /// Whether a member's key is read, and not its value yet.
+    is_after_key: bool,
+}
+
+impl Walk {
+    pub fn new() -> Walk {
+        Walk {
+            within: Within::Plain,
+            depth: 0,
+            starts: [0; LEVELS],
+            is_after_key: false,
+        }
+    }
+
+    fn begin(&mut self, at: usize) {
+        if self.depth < LEVELS {
+            self.starts[self.depth] = at;
+        }
+    }
+
+    // Ends the current value before an offset.
+    fn end(&mut self, end: usize) -> Ended {
+        self.within = Within::Plain;
+        if self.depth >= LEVELS {
+            return Ended::Nothing;
+        }
+        let start = self.starts[self.depth];
+        let span = Span { start, end };
+        match self.depth {
+            1 => if self.is_after_key {
+                Ended::Value(span)
+            } else {
+                Ended::Key(span)
+            },
+            2 => Ended::Item(span),
+            3 => Ended::Inner(span),
+            _ => Ended::Nothing,
+        }
+    }
+
+    fn set_after_key(&mut self, is_after_key: bool) {
+        if self.depth == 1 {
+            self.is_after_key = is_after_key;
+        }
+    }
+
+    // Reads a byte outside of strings, numbers and words.
+    fn read_plain(&mut self, at: usize, byte: u8) -> Ended {
+        match byte {
+            b' ' | b'\t' | b'\r' | b'\n' => {}
+            b',' => self.set_after_key(false),
+            b':' => self.set_after_key(true),
+            b'[' | b'{' => {
+                self.begin(at);
+                self.depth = self.depth.saturating_add(1);
+            }
+            b']' | b'}' => {
+                self.depth = self.depth.saturating_sub(1);
+                return self.end(at.saturating_add(1));
+            }
+            b'"' => {
+                self.begin(at);
+                self.within = Within::String;
+            }
+            _ => {
+                self.begin(at);
+                self.within = Within::Scalar;
+            }
+        }
+        Ended::Nothing
+    }
+
+    /// Returns what ends before a byte. Only a number or a word does.
+    pub fn read_end(&mut self, at: usize, byte: u8) -> Ended {
+        if !matches!(self.within, Within::Scalar) {
+            return Ended::Nothing;
+        }
+        match byte {
+            b' ' | b'\t' | b'\r' | b'\n' | b',' | b']' | b'}' => self.end(at),
+            _ => Ended::Nothing,
+        }
+    }
+
+    /// Reads the byte at an offset, and returns what ends with it.
+    pub fn read(&mut self, at: usize, byte: u8) -> Ended {
+        match (self.within, byte) {
+            (Within::Plain, _) => return self.read_plain(at, byte),
+            (Within::Scalar, _) => {}
+            (Within::Escape, _) => self.within = Within::String,
+            (Within::String, b'\\') => self.within = Within::Escape,
+            (Within::String, b'"') => return self.end(at.saturating_add(1)),
+            (Within::String, _) => {}
+        }
+        Ended::Nothing
+    }
+}
