@@ -5,7 +5,7 @@ ghost use Rattle.dap_frames.specs.declared.fault.WriteFault.TheVariants.{Memory}
 use std::alloc::AllocError;
 
 /// Why a stream isn't decoded.
-#[derive(Clone, Copy, Debug, PartialEq, Eq)]
+#[derive(Clone, Copy)]
 pub enum FrameFault {
     /// An allocation failed.
     Memory,
@@ -22,7 +22,7 @@ pub enum FrameFault {
 }
 
 /// Why a body isn't framed.
-#[derive(Clone, Copy, Debug, PartialEq, Eq)]
+#[derive(Clone, Copy)]
 pub enum WriteFault {
     /// An allocation failed.
     Memory,

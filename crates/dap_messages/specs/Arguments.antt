@@ -1,6 +1,6 @@
 -- The arguments of each request: "Requests" of the Debug Adapter Protocol's specification. The text
 -- in quotation marks is the heading of a request or of a type there.
-use Rattle.std.specs.Prelude.{ℕ, ◌<◌, pos, nat_lt, List, Bool, true, false, if◌then◌else◌, Option, Some, None, option_map, option_and_then, Result, Ok, Err}
+use Rattle.std.specs.Prelude.{ℕ, pos, nat_lt, List, Bool, true, false, if◌then◌else◌, Option, Some, None, option_map, option_and_then, Result, Ok, Err}
 use Rattle.serde_json.specs.Data.{Data}
 use Rattle.serde_json.specs.Find.{as_bool, as_str}
 use Rattle.dap_messages.specs.declared.fault.RequestFault.{RequestFault}

@@ -1,6 +1,6 @@
 -- The request that a message is: "ProtocolMessage" and "Request" of the Debug Adapter Protocol's
 -- specification.
-use Rattle.std.specs.Prelude.{ℕ, ◌==◌, List, codes, Bool, true, false, if◌then◌else◌, Option, Some, None, option_and_then, Result, Ok, Err}
+use Rattle.std.specs.Prelude.{ℕ, List, codes, Bool, false, if◌then◌else◌, Option, Some, None, option_and_then, Result, Ok, Err}
 use Rattle.std.specs.Result.{result_unwrap_or}
 use Rattle.std.specs.Str.{bytes_eq}
 use Rattle.serde_json.specs.Data.{Data, object}

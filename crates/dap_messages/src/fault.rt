@@ -6,7 +6,7 @@ use crate::field::Field;
 use std::alloc::{AllocError, AllocFailed};
 
 /// Why a request isn't read.
-#[derive(Clone, Copy, Debug, PartialEq, Eq)]
+#[derive(Clone, Copy)]
 pub enum RequestFault {
     /// An allocation failed.
     Memory,

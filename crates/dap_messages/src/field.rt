@@ -3,7 +3,7 @@ ghost use Rattle.std.specs.Prelude.{◌≡◌};
 ghost use Rattle.dap_messages.specs.Fields.{field_name};
 
 /// A member of a message, of a request's arguments, or of an object in them.
-#[derive(Clone, Copy, Debug, PartialEq, Eq)]
+#[derive(Clone, Copy)]
 pub enum Field {
     Arguments,
     Breakpoints,

@@ -1,5 +1,5 @@
 -- Where the items of a script are in its text.
-use Rattle.std.specs.Prelude.{◌≡◌, ℕ, ◌+◌, ◌≤◌, List, [], ◌∷◌, length, Option, Some, Result, Ok}
+use Rattle.std.specs.Prelude.{◌≡◌, ℕ, ◌+◌, ◌≤◌, List, [], ◌∷◌, length, Some, Result, Ok}
 use Rattle.serde_json.specs.Data.{Data}
 use Rattle.serde_json.specs.Read.{read}
 use Rattle.ring_words.specs.Rings.{rounded}
@@ -24,6 +24,10 @@ pub record IsRange {A : Type 0} (item_at : ℕ → Data → Result A ScriptFault
   pub value : Data
   pub there : ReadsAt text s value
   pub item : item_at i value ≡ Ok x
+
+-- A list of any JSON values.
+abbrev pub value_item : ℕ → Data → Result Data ScriptFault
+value_item i d = Ok d
 
 -- The range of item i, with its positions, from an offset on.
 pub record IsItem {A : Type 0} (item_at : ℕ → Data → Result A ScriptFault) (text : List ℕ) (before : ℕ) (l : Item) (i : ℕ) (x : A) : Type 0 where

@@ -1,5 +1,7 @@
 //! Reads ranges of a text, and compares them with the items that they should be.
-ghost use Rattle.std.specs.Prelude.{◌≡◌, IfOk, IfSome, IsTrue};
+ghost use Rattle.std.specs.Prelude.{◌≡◌, ◌≤◌, IfOk, IfSome, IsTrue};
+ghost use Rattle.serde_json.specs.Data.{depth};
+ghost use Rattle.serde_json.specs.Read.{max_depth};
 ghost use Rattle.serde_json.specs.View.{view};
 ghost use Rattle.script.specs.Events.{event_at};
 ghost use Rattle.script.specs.Instructions.{instruction_at};
@@ -14,7 +16,8 @@ use std::alloc::{AllocError, Global};
 
 // Returns the value that a range reads as.
 fn value_at(alloc: Global, text: &[u8], span: Span) -> Result<Option<Value>, AllocError>
-    ensures { IfOk result (λ found. IfSome found (λ v. ReadsAt text.now span (view v))) }
+    ensures reads { IfOk result (λ found. IfSome found (λ v. ReadsAt text.now span (view v))) }
+    ensures depth { IfOk result (λ found. IfSome found (λ v. depth (view v) ≤ max_depth)) }
 {
     let Some(bytes) = text.get(span.start..span.end) else {
         return Ok(None);
@@ -28,6 +31,28 @@ fn value_at(alloc: Global, text: &[u8], span: Span) -> Result<Option<Value>, All
                 Ok(None)
             }
         }
+    }
+}
+
+// Returns whether two values have the same text.
+fn have_same_text(alloc: Global, one: &Value, other: &Value) -> Result<bool, AllocError>
+    requires one { depth (view one.now) ≤ max_depth }
+    requires other { depth (view other.now) ≤ max_depth }
+    ensures { IfOk result (λ yes. IsTrue yes → view one.now ≡ view other.now) }
+{
+    let one = one.to_string(alloc)?;
+    let other = other.to_string(alloc)?;
+    Ok(one.as_str() == other.as_str())
+}
+
+/// Returns whether a range reads as a JSON value.
+pub fn is_value(alloc: Global, text: &[u8], span: Span, value: &Value) -> Result<bool, AllocError>
+    requires { depth (view value.now) ≤ max_depth }
+    ensures { IfOk result (λ yes. IsTrue yes → ReadsAt text.now span (view value.now)) }
+{
+    match value_at(alloc, text, span)? {
+        Some(found) => have_same_text(alloc, &found, value),
+        None => Ok(false),
     }
 }
 

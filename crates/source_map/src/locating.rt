@@ -1,11 +1,14 @@
 //! Certifies the ranges of a script's items, and adds their lines and columns.
-ghost use Rattle.std.specs.Prelude.{◌≡◌, ◌≤◌, length, IfOk, IfSome};
+ghost use Rattle.std.specs.Prelude.{◌≡◌, ◌≤◌, All, IfOk, IfSome, length, map};
+ghost use Rattle.serde_json.specs.Data.{depth};
+ghost use Rattle.serde_json.specs.Read.{max_depth};
+ghost use Rattle.serde_json.specs.View.{view};
 ghost use Rattle.script.specs.Events.{event_at};
 ghost use Rattle.script.specs.Instructions.{instruction_at};
-ghost use Rattle.source_map.specs.Maps.{AreItems, AreThreads, Maps};
+ghost use Rattle.source_map.specs.Maps.{AreItems, AreThreads, Maps, value_item};
 ghost use Rattle.source_map.specs.Positions.{IsCursor, position_at};
 
-use crate::certifying::{is_event, is_instruction};
+use crate::certifying::{is_event, is_instruction, is_value};
 use crate::cursor::{Cursor, advance, text_start};
 use crate::map::{Item, SourceMap};
 use crate::scanning::spans_of;
@@ -13,6 +16,7 @@ use crate::span::Span;
 use places::Items;
 use scenario::{Event, Instruction, ring_size};
 use script::Script;
+use serde_json::Value;
 use std::alloc::{AllocError, Global};
 
 /// The most threads of a script, and the most instructions of one.
@@ -61,6 +65,36 @@ fn locate_events(
     for (i, event) in events.iter().enumerate() {
         let span = spans[i];
         if !is_event(alloc, text, span, i as u32, event)? {
+            return Ok(None);
+        }
+        let Some((item, after)) = locate(text, cursor, span) else {
+            return Ok(None);
+        };
+        items.push(item)?;
+        cursor = after;
+    }
+    Ok(Some(Items::from_vec(items)))
+}
+
+/// Returns where the items of a JSON list are, such as those of a script's setup.
+pub fn locate_values(
+    alloc: Global,
+    text: &[u8],
+    spans: &[Span],
+    values: &[Value],
+) -> Result<Option<Items<Item>>, AllocError>
+    requires { All (λ v. depth (view v) ≤ max_depth) values.now }
+    ensures { IfOk result (λ found. IfSome found (λ items.
+        AreItems value_item text.now 0 0 items (map view values.now))) }
+{
+    if spans.len() != values.len() {
+        return Ok(None);
+    }
+    let mut items = Vec::with_capacity(alloc, values.len())?;
+    let mut cursor = text_start(text);
+    for (i, value) in values.iter().enumerate() {
+        let span = spans[i];
+        if !is_value(alloc, text, span, value)? {
             return Ok(None);
         }
         let Some((item, after)) = locate(text, cursor, span) else {
