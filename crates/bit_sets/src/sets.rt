@@ -88,7 +88,7 @@ impl BitSet {
         if let Some(bit) = next_bit(self.words[first], from % 64) {
             return Some(first * 64 + bit);
         }
-        let at = next_number(&self.summary, first + 1)?;
+        let at = next_number(&self.summary[..self.words.len().div_ceil(64)], first + 1)?;
         let bit = next_bit(self.words[at], 0)?;
         Some(at * 64 + bit)
     }

@@ -1,6 +1,6 @@
 //! Notes of requests, and of the places that hold neither a number, a byte nor
 //! a completion of the ring.
-ghost use Rattle.std.specs.Prelude.{◌≡◌, ◌∷◌, [], Some, option_map, true, not, is_some, MatchOption, OnOk};
+ghost use Rattle.std.specs.Prelude.{◌≡◌, ◌↔◌, ◌∷◌, [], Some, option_map, true, not, is_some, IsTrue, MatchOption, OnOk};
 ghost use Rattle.entries.specs.declared.row.Row.{Row};
 ghost use Rattle.places.specs.declared.value.Value.TheVariants.{Requested};
 ghost use Rattle.places.specs.declared.place.Place.TheVariants.{Request};
@@ -165,6 +165,17 @@ fn small_value(old: Option<Small>) -> Option<Value>
     }
 }
 
+// Returns whether `now` is the old value, or both are absent.
+fn is_value(old: &Option<Small>, now: &Option<Value>) -> bool
+    ensures { IsTrue result ↔ (option_map value_of old.now ≡ now.now) }
+{
+    match (old, now) {
+        (None, None) => true,
+        (Some(old), Some(now)) => old.value().equals(now),
+        _ => false,
+    }
+}
+
 /// Appends a place and its old value to packed bytes. A byte has no packed form: it is refused as
 /// if an allocation failed, and the record then stays unpacked.
 fn put_small(out: &mut Vec<u8>, place: Place, index: u32, old: &Small) -> Result<(), AllocError>
@@ -298,7 +309,9 @@ impl Slotted for RowNote {
                 Some(now) => !now.equals(old),
                 None => differs(self.change(), whole),
             },
-            RowNote::Other(_, _, _) => differs(self.change(), whole),
+            RowNote::Other(kind, index, old) => {
+                !is_value(old, &whole.at(place_of_other(*kind, *index)))
+            }
         }
     }
 }

@@ -278,6 +278,18 @@ fn reach(marks: &mut Vec<usize>, slot: usize) -> Result<(), AllocError>
     if slot < marks.len() {
         return Ok(());
     }
+    extend_to(marks, slot)
+}
+
+/// Extends shorter marks. A function of its own, so that the test of the length is inlined.
+#[inline(never)]
+fn extend_to(marks: &mut Vec<usize>, slot: usize) -> Result<(), AllocError>
+    requires { length marks.old.items ≤ slot }
+    ensures reached { OnOk result (slot < length marks.new.items) }
+    ensures longer { length marks.old.items ≤ length marks.new.items }
+    ensures kept { (i : ℕ) → i < length marks.old.items
+        → slice_get marks.new.items i ≡ slice_get marks.old.items i }
+{
     let Some(len) = slot.checked_add(1) else {
         return Err(AllocError);
     };
