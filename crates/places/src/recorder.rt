@@ -254,7 +254,7 @@ impl Recorder {
             return Ok(());
         }
         self.spare.ready(self.alloc)?;
-        self.rows.note(&RowNote::of_other(place, old))?;
+        self.rows.note(RowNote::of_other(place, old))?;
         self.room.spend_other();
         Ok(())
     }
@@ -272,7 +272,7 @@ impl Recorder {
             return Ok(());
         }
         self.spare.ready(self.alloc)?;
-        self.numbers.note(&NumberNote::new(place, old))?;
+        self.numbers.note(NumberNote::new(place, old))?;
         self.room.spend_number();
         Ok(())
     }
@@ -290,7 +290,7 @@ impl Recorder {
             return Ok(());
         }
         self.spare.ready(self.alloc)?;
-        self.completions.note(&CompletionNote { slot, old })?;
+        self.completions.note(CompletionNote { slot, old })?;
         self.room.spend_completion();
         Ok(())
     }
@@ -308,7 +308,7 @@ impl Recorder {
             return Ok(());
         }
         self.spare.ready(self.alloc)?;
-        self.rows.note(&RowNote::new(row, &old))?;
+        self.rows.note(RowNote::new(row, old))?;
         self.room.spend_other();
         Ok(())
     }

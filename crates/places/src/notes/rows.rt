@@ -86,13 +86,13 @@ impl Small {
 
 impl RowNote {
     /// Builds the note of a request.
-    pub fn new(row: u32, old: &Option<Row>) -> RowNote
+    pub fn new(row: u32, old: Option<Row>) -> RowNote
         ensures { row_change result
-            ≡ record { place = Request row; old = option_map Requested old.now } }
+            ≡ record { place = Request row; old = option_map Requested old } }
     {
         match old {
             None => RowNote::Absent(row),
-            Some(before) => RowNote::Was(row, *before),
+            Some(before) => RowNote::Was(row, before),
         }
     }
 

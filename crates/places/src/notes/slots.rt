@@ -96,12 +96,12 @@ impl<N: Slotted + Copy> Slots<N> {
 
     /// Adds a note, unless its place has one. Allocates nothing if there is reserved memory
     /// and a mark for its slot.
-    pub fn note(&mut self, note: &N) -> Result<(), AllocError>
+    pub fn note(&mut self, note: N) -> Result<(), AllocError>
         ensures ok { OnOk result
-            (Noted (map N.change self.old.notes)
-            (map N.change self.new.notes) (N.change note.now).place (N.change note.now).old) }
+            (Noted (map N.change self.old.notes) (map N.change self.new.notes) (N.change note).place
+            (N.change note).old) }
         ensures err { OnErr result (self.new.notes ≡ self.old.notes) }
-        ensures there { 0 < self.old.spare → N.slot note.now < self.old.reached → IsOk result }
+        ensures there { 0 < self.old.spare → N.slot note < self.old.reached → IsOk result }
         ensures spare { self.old.spare ≤ self.new.spare + 1 }
         ensures kept { OnErr result (self.old.spare ≤ self.new.spare) }
         ensures reached { self.old.reached ≤ self.new.reached }
@@ -113,7 +113,7 @@ impl<N: Slotted + Copy> Slots<N> {
         let at = self.notes.len();
         reach(&mut self.marks, slot)?;
         grow(&mut self.notes)?;
-        self.notes.push_reserved(*note);
+        self.notes.push_reserved(note);
         self.marks[slot] = at;
         Ok(())
     }
