@@ -219,10 +219,9 @@ fn put_wide(out: &mut Vec<u8>, number: u64) -> Result<(), AllocError>
 fn put_two(out: &mut Vec<u8>, number: u16) -> Result<(), AllocError>
     ensures { OnOk result (out.new.items ≡ out.old.items ++ (253 ∷ little_bytes 2 number)) }
 {
-    out.push(TWO)?;
-    out.push((number % 256) as u8)?;
-    out.push((number / 256) as u8)?;
-    Ok(())
+    let mut bytes = [TWO, 0, 0];
+    LittleEndian::write_u16(&mut bytes[1..], number);
+    out.extend_from_slice(&bytes)
 }
 
 fn put_four(out: &mut Vec<u8>, number: u32) -> Result<(), AllocError>
