@@ -20,7 +20,7 @@ use Rattle.opcodes.specs.declared.op.Op.{Op}
 use Rattle.opcodes.specs.declared.op.Op.TheVariants.{Read, Write}
 use Rattle.opcodes.specs.declared.ending.Outcome.TheVariants.{Res}
 use Rattle.opcodes.specs.Check.{op_of}
-use Rattle.opcodes.specs.Outcomes.{fixed, transferred, passes_memory, offset_of, file_read, file_written, pipe_read, pipe_written, event_read, event_written, read_outcome, write_outcome, outcome_on, outcome_of, held_descriptor, position_of}
+use Rattle.opcodes.specs.Outcomes.{fixed, passes_memory, offset_of, read_outcome, write_outcome, outcome_on, outcome_of, held_descriptor, position_of}
 use Rattle.opcodes.specs.Effects.{moved_on, bytes_written}
 
 -- The fixed properties are the same, whether the transfer succeeds or an allocation fails.
@@ -29,15 +29,6 @@ setup_either = grind arith
 
 pub setup_moved : (w : WorldState) (fd n : ℕ) (d : DescriptorState) (p : ℕ) → descriptor_of w fd ≡ Some d → d.position ≡ Some p → OneSetup w (world_at fd n w)
 setup_moved w fd n d p h e = setup_at fd n w (λ x k. let same : x ≡ d = (let g = (number_from_three w fd d h).1 in let both = sym k ∙ g in cc) in ap is_some (ap (λ (y : DescriptorState). y.position) same ∙ e))
-
-fixed_bad : (n k : ℕ) (c : Choice) → fixed (negsuc n) c ≡ Res (pos k) → ⊥
-fixed_bad = grind arith
-
-fixed_same : (n k : ℕ) (c : Choice) → fixed (pos n) c ≡ Res (pos k) → k ≡ n
-fixed_same = grind arith
-
-transferred_most : (m k : ℕ) (c : Choice) → transferred m c ≡ Res (pos k) → k ≤ m
-transferred_most = grind arith
 
 -- The bounds of a file transfer of k bytes.
 pub record Moves (entry : Sqe) (position k : ℕ) : Type 0 where
@@ -54,24 +45,6 @@ abbrev pub WriteKeeps : Sqe → ℕ → ℕ → ℕ → Stock → Type 0
 WriteKeeps entry p number k (File len) = Moves entry p k
 WriteKeeps entry p number k (Pipe filled capacity) = (k ≤ capacity - filled) × (entry.addr + k ≤ 65536)
 WriteKeeps entry p number k (EventFd counter) = (entry.addr + 8 ≤ 65536) × (counter + number < 2 ^ 64 - 1)
-
-file_read_keeps : (entry : Sqe) (p k n : ℕ) (c : Choice) → n ≤ 65536 → entry.addr + entry.len ≤ 65536 → file_read entry p n c ≡ Res (pos k) → Moves entry p k
-file_read_keeps = grind arith
-
-file_written_keeps : (entry : Sqe) (p k : ℕ) (c : Choice) → entry.addr + entry.len ≤ 65536 → file_written entry p c ≡ Res (pos k) → Moves entry p k
-file_written_keeps = grind arith
-
-pipe_read_keeps : (len k filled : ℕ) (writer : Bool) (c : Choice) → pipe_read len writer filled c ≡ Res (pos k) → (k ≤ filled) × (k ≤ len)
-pipe_read_keeps = grind arith
-
-pipe_written_keeps : (len k filled capacity : ℕ) (reader : Bool) (c : Choice) → pipe_written len reader filled capacity c ≡ Res (pos k) → (k ≤ capacity - filled) × (k ≤ len)
-pipe_written_keeps = grind arith
-
-event_read_keeps : (len k counter : ℕ) (c : Choice) → event_read len counter c ≡ Res (pos k) → 8 ≤ len
-event_read_keeps = grind arith
-
-event_written_keeps : (len k counter number : ℕ) (c : Choice) → event_written len counter number c ≡ Res (pos k) → (8 ≤ len) × (counter + number < 2 ^ 64 - 1)
-event_written_keeps = grind arith
 
 read_keeps : (entry : Sqe) (p k : ℕ) (writer : Bool) (stock : Stock) (c : Choice) → StockFits stock → cond (passes_memory entry) (fixed (negsuc 13) c) (read_outcome entry p writer (Some stock) c) ≡ Res (pos k) → ReadKeeps entry p k stock
 read_keeps = grind arith
@@ -128,10 +101,6 @@ row_read = grind (arith, read_keeps, stock_fits, outcome_is)
 
 pub row_written : (held : ℕ → Bool) (w : WorldState) (row : Row) (d : DescriptorState) (s : Stock) (c : Choice) (res : ℤ) (k : ℕ) → op_of row.entry.opcode ≡ Some Write → held_descriptor w row ≡ Some d → stock_of w d.object ≡ Some s → pos k ≡ res → outcome_of held w row c ≡ Res res → WriteKeeps row.entry (position_of (Some d)) (number_at w row.entry.addr) k s
 row_written = grind (arith, write_keeps)
-
--- Writing the bytes and then advancing the position is `bytes_written`.
-pub written_then : (entry : Sqe) (fd : ℕ) (d : DescriptorState) (k : ℕ) (w v x : WorldState) → v ≡ world_written d.object (offset_of entry (position_of (Some d))) k entry.addr w → x ≡ moved_on entry fd d.position k v → x ≡ bytes_written entry fd d k w
-written_then entry fd d k w v x h e = e ∙ ap (moved_on entry fd d.position k) h
 
 pub ok_written : {T E : Type 0} (entry : Sqe) (fd : ℕ) (d : DescriptorState) (k : ℕ) (w v x : WorldState) (r : Result T E) → v ≡ world_written d.object (offset_of entry (position_of (Some d))) k entry.addr w → OnOk r (x ≡ moved_on entry fd d.position k v) → OnOk r (x ≡ bytes_written entry fd d k w)
 ok_written = grind arith

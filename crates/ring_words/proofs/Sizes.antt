@@ -1,5 +1,5 @@
 -- Facts about the sizes of rings.
-use Rattle.std.proofs.Common.{length, slice_index_or, ◌≡◌, ◌*◌, ℕ, zero, suc, Bool, true, false, cond, refl, sym, ◌∙◌, ap, List, [], ◌∷◌, ◌+◌, ◌/◌, ◌<◌, ◌≤◌, ◌^◌, ◌⊎◌, inl, inr, nat_lt, subst, arith, pow_mono}
+use Rattle.std.proofs.Common.{length, slice_index_or, ◌≡◌, ◌*◌, ℕ, zero, suc, Bool, true, false, cond, refl, sym, ap, List, [], ◌∷◌, ◌+◌, ◌/◌, ◌<◌, ◌≤◌, ◌^◌, ◌⊎◌, inl, inr, nat_lt, subst, arith, pow_mono}
 use Rattle.std.proofs.lemmas.Bool.{ltb-true, ltb-false}
 use Rattle.std.proofs.Math.Nat.{pow-succ'}
 use Rattle.std.proofs.Math.Dec.{leb}
@@ -17,14 +17,6 @@ powers k (suc j) = 2 ^ k ∷ powers (suc k) j
 sizes_are : sizes ≡ powers 0 13
 unfolding powers
 sizes_are = refl
-
--- The power at index i.
-power_at : (k j i n : ℕ) → i < length (powers k j) → slice_index_or (powers k j) i n ≡ 2 ^ (k + i)
-unfolding powers
-power_at k zero zero n l = ap (λ m. 2 ^ m) (omega arith)
-power_at k zero (suc i) n l = absurd (omega (arith, l))
-power_at k (suc j) zero n l = ap (λ m. 2 ^ m) (omega arith)
-power_at k (suc j) (suc i) n l = power_at (suc k) j i n (omega (arith, l)) ∙ ap (λ m. 2 ^ m) (omega arith)
 
 size_at : (i n : ℕ) → i < length sizes → slice_index_or sizes i n ≡ 2 ^ i
 size_at = grind arith
