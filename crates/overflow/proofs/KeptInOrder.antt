@@ -92,3 +92,6 @@ flushed_formed = grind (arith, room_for, moved_least, moved_room, posted_waits, 
 -- The ring keeps its size.
 pub flushed_size : (d : Delivery) → length (flushed d).completions.slots ≡ length d.completions.slots
 flushed_size d = posted_slots d.completions (take (moved d) (kept d.backlog))
+
+-- What the theorems of the crate say.
+pub ruleset laws = (posted_in_row, posted_into_ring, posted_flag, flushed_in_row, flushed_into_ring, flushed_flag)
