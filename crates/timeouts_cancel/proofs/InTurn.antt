@@ -1,14 +1,13 @@
 -- Two searches for a match in turn: upwards through the issued requests, and downwards through those
 -- with a hash.
 use Rattle.std.proofs.Common.{◌≡◌, ℕ, zero, suc, Bool, true, false, cond, refl, sym, ◌∙◌, ap, subst, List, [], ◌∷◌, length, ◌+◌, ◌-◌, ◌<◌, ◌≤◌, inl, inr, arith}
-use Rattle.std.specs.Prelude.{Option, Some, None, IfNone, IfSome, slice_get, ◌==◌}
-use Rattle.std.proofs.lemmas.Bool.{and_left, cases_lt}
+use Rattle.std.specs.Prelude.{Option, Some, None, IfSome, slice_get, ◌==◌}
+use Rattle.std.proofs.lemmas.Bool.{cases_lt}
 use Rattle.std.proofs.lemmas.Option.{slice_get_within}
 use Rattle.entries.specs.declared.row.Row.{Row}
 use Rattle.links_drains.specs.Finders.{NoUser}
-use Rattle.links_drains.specs.Units.{IsNextIssued}
 use Rattle.timeouts_cancel.specs.declared.matching.Key.{Key}
-use Rattle.timeouts_cancel.specs.Matches.{fits_key, is_match, user_of, FoundPast, IsMatch, IsNextCandidate, IsNextMatch, NoCandidateFrom, NoMatch, NoMatchFrom, Passed}
+use Rattle.timeouts_cancel.specs.Matches.{fits_key, is_match, user_of, FoundPast, IsMatch, NoMatch}
 
 -- ---- Requests that can't match
 
@@ -78,32 +77,7 @@ there [] i h = absurd (omega (arith, h))
 there (x ∷ rows) zero h = (x, refl)
 there (x ∷ rows) (suc i) h = there rows i (omega (arith, h))
 
-pub chosen : (rows : List Row) (r : ℕ) (x row : Row) (b : Bool) (test : Row → Bool) (later : Option (ℕ × Row)) → slice_get rows r ≡ Some x → b ≡ test x → slice_get rows r ≡ Some row → cond b (Some (r, x)) later ≡ cond (test row) (Some (r, row)) later
-chosen = grind arith
-
 -- ---- They meet
-
-pub met_none : (rows : List Row) (key : Key) (me from at end : ℕ) (o : Option (ℕ × Row)) → Passed rows key me from at → end ≤ at → FoundPast rows key me from end o → IfNone o (NoMatchFrom rows key me from)
-met_none = grind arith
-
-pub met_some : (rows : List Row) (key : Key) (me from at end : ℕ) (o : Option (ℕ × Row)) → Passed rows key me from at → end ≤ at → FoundPast rows key me from end o → IfSome o (λ q. IsNextMatch rows key me from q.0 q.1)
-met_some = grind arith
 
 pub met_few : (rows : List Row) (key : Key) (me from end : ℕ) (o : Option (ℕ × Row)) → length rows ≤ 65536 → FoundPast rows key me from end o → IfSome o (λ q. q.0 < 65536)
 met_few = grind (arith, slice_get_within)
-
--- ---- From one candidate to the next
-
-pub passed_candidate : (rows : List Row) (key : Key) (me from at r : ℕ) → Passed rows key me from at → IsNextCandidate rows key at r → NoMatch rows key me r → Passed rows key me from (r + 1)
-passed_candidate = grind arith
-
-pub candidate_found : (rows : List Row) (key : Key) (me from at r : ℕ) (q : ℕ × Row) → Passed rows key me from at → IsNextCandidate rows key at r → IsMatch rows key me r q → IsNextMatch rows key me from q.0 q.1
-candidate_found = grind arith
-
-pub candidates_passed : (rows : List Row) (key : Key) (me from at : ℕ) → Passed rows key me from at → NoCandidateFrom rows key at → NoMatchFrom rows key me from
-candidates_passed rows key me from at p none i x low g = elim (cases_lt i at) [ inl less ↦ p.none i x low less g | inr more ↦ none me i x more g ]
-
--- ---- Candidates
-
-pub issued_candidate : (rows : List Row) (key : Key) (from r : ℕ) → IsNextIssued rows from r → IsNextCandidate rows key from r
-issued_candidate rows key from r n = record { after = n.after; within = slice_get_within rows r n.row n.there; skipped = λ me i x low high g. and_left _ _ (n.least i x low high g) }

@@ -8,7 +8,7 @@ use Rattle.std.proofs.lemmas.List.Elements.{filter-append}
 use Rattle.entries.specs.declared.row.Row.{Row}
 use Rattle.model_files.specs.Worlds.{WorldState}
 use Rattle.opcodes.specs.Outcomes.{is_running}
-use Rattle.links_drains.specs.Units.{IsNextIssued, NoneIssuedFrom}
+use Rattle.links_drains.specs.Units.{IsNextIssued}
 use Rattle.links_drains.proofs.Batching.{take_more}
 use Rattle.links_drains.proofs.Chains.{enumerated}
 use Rattle.links_drains.proofs.Filters.{filter_skip, first_numbered, none_numbered}
@@ -32,9 +32,6 @@ passed_none rows key me from = record { after = omega arith; none = λ i x low h
 -- The next issued request doesn't match.
 pub passed_on : (rows : List Row) (key : Key) (me from at r : ℕ) (row : Row) → Passed rows key me from at → IsNextIssued rows at r → slice_get rows r ≡ Some row → matches key me (r, row) ≡ false → Passed rows key me from (r + 1)
 passed_on = grind arith
-
-pub match_none : (rows : List Row) (key : Key) (me from at : ℕ) → Passed rows key me from at → NoneIssuedFrom rows at → NoMatchFrom rows key me from
-match_none = grind arith
 
 -- ---- The first match
 
