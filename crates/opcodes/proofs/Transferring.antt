@@ -10,7 +10,7 @@ use Rattle.model_files.specs.declared.descriptor.DescriptorState.{DescriptorStat
 use Rattle.model_files.specs.declared.stock.Stock.{Stock}
 use Rattle.model_files.specs.declared.stock.Stock.TheVariants.{File, Pipe, EventFd}
 use Rattle.model_files.specs.Pipes.{PipeFormed, GivesOut, TakesIn, filled}
-use Rattle.model_files.specs.Worlds.{WorldState, WorldFormed, BodyFormed, StockFits, OneSetup, PutsWithin, descriptor_of, file_of, pipe_in, pipe_of, counter_of, stock_in, stock_of, number_at, world_at, world_put, world_taken, world_written}
+use Rattle.model_files.specs.Worlds.{WorldState, WorldFormed, BodyFormed, StockFits, OneSetup, PutsWithin, descriptor_of, file_of, pipe_in, pipe_of, counter_of, stock_in, stock_of, number_at, world_at, world_put, world_taken}
 use Rattle.model_files.proofs.Describing.{number_from_three}
 use Rattle.model_files.specs.Files.{FileFormed}
 use Rattle.model_files.proofs.Forming.{file_formed}
@@ -21,7 +21,6 @@ use Rattle.opcodes.specs.declared.op.Op.TheVariants.{Read, Write}
 use Rattle.opcodes.specs.declared.ending.Outcome.TheVariants.{Res}
 use Rattle.opcodes.specs.Check.{op_of}
 use Rattle.opcodes.specs.Outcomes.{fixed, passes_memory, offset_of, read_outcome, write_outcome, outcome_on, outcome_of, held_descriptor, position_of}
-use Rattle.opcodes.specs.Effects.{moved_on, bytes_written}
 
 -- The fixed properties are the same, whether the transfer succeeds or an allocation fails.
 pub setup_either : {T E : Type 0} (a b d : WorldState) (r : Result T E) → OnOk r (b ≡ d) → OnErr r (b ≡ a) → OneSetup a d → OneSetup a b
@@ -101,9 +100,6 @@ row_read = grind (arith, read_keeps, stock_fits, outcome_is)
 
 pub row_written : (held : ℕ → Bool) (w : WorldState) (row : Row) (d : DescriptorState) (s : Stock) (c : Choice) (res : ℤ) (k : ℕ) → op_of row.entry.opcode ≡ Some Write → held_descriptor w row ≡ Some d → stock_of w d.object ≡ Some s → pos k ≡ res → outcome_of held w row c ≡ Res res → WriteKeeps row.entry (position_of (Some d)) (number_at w row.entry.addr) k s
 row_written = grind (arith, write_keeps)
-
-pub ok_written : {T E : Type 0} (entry : Sqe) (fd : ℕ) (d : DescriptorState) (k : ℕ) (w v x : WorldState) (r : Result T E) → v ≡ world_written d.object (offset_of entry (position_of (Some d))) k entry.addr w → OnOk r (x ≡ moved_on entry fd d.position k v) → OnOk r (x ≡ bytes_written entry fd d k w)
-ok_written = grind arith
 
 pub some_bytes : (k : ℕ) → (k ≡ 0 → ⊥) → 0 < k
 some_bytes = grind arith
