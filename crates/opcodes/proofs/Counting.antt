@@ -1,5 +1,5 @@
 -- Bounds on how many bytes have been written to a pipe over the whole run.
-use Rattle.std.proofs.Common.{◌≡◌, ℕ, ℤ, pos, negsuc, zero, suc, Bool, true, false, cond, refl, sym, ◌∙◌, ap, subst, List, [], ◌∷◌, length, drop, length-take, ◌+◌, ◌≤◌, arith}
+use Rattle.std.proofs.Common.{◌≡◌, ℕ, ℤ, pos, negsuc, zero, suc, Bool, refl, sym, ◌∙◌, ap, List, [], ◌∷◌, length, drop, length-take, ◌+◌, ◌≤◌, arith, rules}
 use Rattle.std.specs.Prelude.{Option, Some, None, slice_get}
 use Rattle.std.specs.Option.{option_and_then}
 use Rattle.std.specs.Option.{option_map_or}
@@ -7,19 +7,18 @@ use Rattle.entries.specs.declared.entry.Sqe.{Sqe}
 use Rattle.entries.specs.declared.row.Row.{Row}
 use Rattle.places.specs.Lists.{updated}
 use Rattle.model_files.specs.declared.body.Body.{Body}
-use Rattle.model_files.specs.declared.body.Body.TheVariants.{File as FileBody, Pipe as PipeBody, EventFd as EventBody}
 use Rattle.model_files.specs.declared.descriptor.DescriptorState.{DescriptorState}
 use Rattle.model_files.specs.declared.stock.Stock.{Stock}
 use Rattle.model_files.specs.declared.stock.Stock.TheVariants.{File, Pipe, EventFd}
 use Rattle.model_files.specs.Files.{part, synced, written}
 use Rattle.model_files.specs.Pipes.{PipeState, put_in, taken_out}
-use Rattle.model_files.specs.Worlds.{WorldState, PutsWithin, descriptor_of, number_at, on_counter, on_file, on_pipe, pipe_in, stock_of, world_added, world_at, world_cleared, world_put, world_synced, world_taken}
+use Rattle.model_files.specs.Worlds.{WorldState, PutsWithin, descriptor_of, number_at, on_counter, on_file, on_pipe, pipe_in, stock_of, world_added, world_cleared, world_put, world_synced, world_taken}
 use Rattle.entries.specs.declared.choice.Choice.{Choice}
 use Rattle.opcodes.specs.declared.op.Op.{Op}
 use Rattle.opcodes.specs.declared.op.Op.TheVariants.{Fsync, Read, Write}
 use Rattle.opcodes.specs.declared.ending.Outcome.TheVariants.{Res}
 use Rattle.opcodes.specs.Check.{op_of}
-use Rattle.opcodes.specs.Outcomes.{outcome_of, held_descriptor, is_at_position, offset_of, position_of}
+use Rattle.opcodes.specs.Outcomes.{outcome_of, held_descriptor}
 use Rattle.opcodes.specs.Effects.{moved_on, bytes_read, bytes_written, done_by, world_after}
 use Rattle.opcodes.proofs.Transferring.{row_written}
 
@@ -41,45 +40,28 @@ puts_file : (g : Body → Body) → ((b : Body) → pipe_in (g b) ≡ pipe_in b)
 puts_file g same n os o h = puts_changed g n n (omega arith) (λ b p k e. k p (sym (same b) ∙ e)) os o h
 
 files_same : (b : Body) (at : ℕ) (bytes : List ℕ) → pipe_in (on_file (written bytes at) b) ≡ pipe_in b
-files_same (FileBody f) at bytes = refl
-files_same (PipeBody p) at bytes = refl
-files_same (EventBody n) at bytes = refl
+files_same = grind arith
 
 syncs_same : (b : Body) → pipe_in (on_file synced b) ≡ pipe_in b
-syncs_same (FileBody f) = refl
-syncs_same (PipeBody p) = refl
-syncs_same (EventBody n) = refl
+syncs_same = grind arith
 
 counters_same : (g : ℕ → ℕ) (b : Body) → pipe_in (on_counter g b) ≡ pipe_in b
-counters_same g (FileBody f) = refl
-counters_same g (PipeBody p) = refl
-counters_same g (EventBody n) = refl
+counters_same = grind arith
 
 taken_keeps : (n k : ℕ) (b : Body) (p : PipeState) → ((q : PipeState) → pipe_in b ≡ Some q → q.put ≤ n) → pipe_in (on_pipe (taken_out k) b) ≡ Some p → p.put ≤ n
-taken_keeps n k (FileBody f) p h e = absurd cc
-taken_keeps n k (PipeBody q) p h e = let same : taken_out k q ≡ p = cc in subst (λ (z : PipeState). z.put ≤ n) same (h q refl)
-taken_keeps n k (EventBody m) p h e = absurd cc
+taken_keeps = grind arith
 
 put_grows : (n k : ℕ) (bytes : List ℕ) → length bytes ≤ k → (b : Body) (p : PipeState) → ((q : PipeState) → pipe_in b ≡ Some q → q.put ≤ n) → pipe_in (on_pipe (put_in bytes) b) ≡ Some p → p.put ≤ n + k
-put_grows n k bytes l (FileBody f) p h e = absurd cc
-put_grows n k bytes l (PipeBody q) p h e = let same : put_in bytes q ≡ p = cc in let m = h q refl in subst (λ (z : PipeState). z.put ≤ n + k) same (omega (arith, m, l))
-put_grows n k bytes l (EventBody m) p h e = absurd cc
+put_grows = grind arith
 
 puts_moved : (entry : Sqe) (fd k n : ℕ) (o : Option ℕ) (w : WorldState) → PutsWithin n w → PutsWithin n (moved_on entry fd o k w)
-puts_moved entry fd k n None w h = h
-puts_moved entry fd k n (Some p) w h = by (is_at_position entry)
-  where
-    by : (b : Bool) → PutsWithin n (cond b (world_at fd (p + k) w) w)
-    by true = h
-    by false = h
+puts_moved = grind arith
 
 puts_read : (entry : Sqe) (fd : ℕ) (d : DescriptorState) (k n : ℕ) (w : WorldState) → PutsWithin n w → PutsWithin n (bytes_read entry fd d k w)
 puts_read entry fd d k n w h = puts_moved entry fd k n d.position _ h
 
 puts_written : (entry : Sqe) (fd : ℕ) (d : DescriptorState) (k n : ℕ) (w : WorldState) → PutsWithin n w → PutsWithin n (bytes_written entry fd d k w)
-puts_written entry fd d k n w h =
-    puts_moved entry fd k n d.position _
-    (puts_file (on_file (written (part w.memory entry.addr k) (offset_of entry (position_of (Some d))))) (λ b. files_same b (offset_of entry (position_of (Some d))) (part w.memory entry.addr k)) n w.objects d.object h)
+puts_written = search (rules, puts_moved, puts_file, files_same)
 
 puts_taken : (entry : Sqe) (o k n : ℕ) (w : WorldState) → PutsWithin n w → PutsWithin n (world_taken o k entry.addr w)
 puts_taken entry o k n w h = puts_changed (on_pipe (taken_out k)) n n (omega arith) (taken_keeps n k) w.objects o h

@@ -1,6 +1,6 @@
 -- Setting a file position can't fail if there is room for its note.
 use Rattle.std.proofs.Common.{◌≡◌, ℕ, ◌-◌, ◌<◌, arith}
-use Rattle.std.specs.Prelude.{Some, Result, Ok, Err, IsOk, OnErr}
+use Rattle.std.specs.Prelude.{Some, Result, IsOk, OnErr}
 use Rattle.std.proofs.lemmas.Option.{slice_get_within}
 use Rattle.model_files.specs.declared.descriptor.DescriptorState.{DescriptorState}
 use Rattle.model_files.specs.Worlds.{WorldState, WorldFormed, descriptor_of}
@@ -12,5 +12,4 @@ number_below w fd d f h = let n = number_from_three w fd d h in let l = slice_ge
 
 -- If a result is not an error, any claim about its error holds.
 pub moves : {A E : Type 0} (r : Result A E) (P : Type 0) → IsOk r → OnErr r P
-moves (Ok x) P h = tt
-moves (Err e) P h = absurd cc
+moves = grind arith

@@ -82,6 +82,7 @@ fn narrow(n: u64) -> u32
 }
 
 // Reads `count` bytes of a file into memory.
+#[tactic(auto, using(crate::proofs::Nothing::bytes_read_nothing, crate::proofs::Moving::moves, crate::proofs::Moving::number_below))]
 fn read_bytes(
     world: &mut World,
     entry: &Sqe,
@@ -120,6 +121,7 @@ fn read_bytes(
 }
 
 // Writes `count` bytes of memory to a file.
+#[tactic(auto, using(crate::proofs::Transferring::file_there, crate::proofs::Moving::moves, crate::proofs::Moving::number_below))]
 fn write_bytes(
     world: &mut World,
     entry: &Sqe,
@@ -159,6 +161,7 @@ fn write_bytes(
 }
 
 // Reads `count` bytes of a pipe into memory.
+#[tactic(auto, using(crate::proofs::Nothing::taken_nothing))]
 fn take_bytes(
     world: &mut World,
     entry: &Sqe,
@@ -244,6 +247,7 @@ fn add(world: &mut World, entry: &Sqe, object: u32, notes: &mut Recorder) -> Res
 }
 
 // Advances the file position by `count` bytes, if the transfer used it.
+#[tactic(auto, using(crate::proofs::Transferring::setup_either, crate::proofs::Transferring::setup_moved))]
 fn move_on(
     world: &mut World,
     entry: &Sqe,

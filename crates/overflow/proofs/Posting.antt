@@ -1,5 +1,5 @@
 -- Facts about posting completions into the ring in order.
-use Rattle.std.proofs.Common.{◌≡◌, ℕ, refl, sym, ◌∙◌, ap, subst, List, [], ◌∷◌, ◌++◌, length, take, append_assoc, length-set, ◌+◌, ◌%◌, ◌≤◌, ◌<◌, arith}
+use Rattle.std.proofs.Common.{◌≡◌, ℕ, refl, sym, ◌∙◌, ap, List, [], ◌∷◌, ◌++◌, length, take, append_assoc, length-set, ◌+◌, ◌%◌, ◌≤◌, ◌<◌, arith}
 use Rattle.std.specs.Prelude.{None, Some, slice_get}
 use Rattle.std.proofs.lemmas.Grind.{common_steps}
 use Rattle.std.proofs.lemmas.Option.{gets}
@@ -8,7 +8,7 @@ use Rattle.entries.specs.declared.completion.Cqe.{Cqe}
 use Rattle.places.specs.declared.place.Place.{Place}
 use Rattle.places.specs.View.{named, Keeps}
 use Rattle.places.specs.Notes.{Notes}
-use Rattle.places.proofs.Keeping.{keeps_same, keeps_then}
+use Rattle.places.proofs.Keeping.{keeps_then}
 use Rattle.ring_words.specs.Rings.{ComWords, ComFormed, waiting, com_list, com_owns, com_seen}
 use Rattle.ring_words.proofs.Laws.{com_posted, formed_posted}
 use Rattle.ring_words.proofs.Order.{waiting_more}
@@ -59,22 +59,11 @@ pub record Posting (before now : ComWords) (old new : Notes) (list : List Cqe) (
   pub completions : old.completions ≤ new.completions + i
 
 pub posting_starts : (w : ComWords) (notes : Notes) (list : List Cqe) → ComFormed w → Posting w w notes notes list 0
-posting_starts w notes list f = record {
-  next = refl;
-  formed = f;
-  keeps = keeps_same com_owns (com_seen w) notes.made;
-  named = λ p e. e;
-  numbers = omega arith;
-  completions = omega arith;
-}
+posting_starts = grind arith
 
 -- The next completion fits.
 pub posting_room : (before now : ComWords) (old new : Notes) (list : List Cqe) (i : ℕ) → Posting before now old new list i → waiting before.head before.tail + length list ≤ length before.slots → i < length list → waiting now.head now.tail < length now.slots
-posting_room before now old new list i p r l =
-    let n = length-take-le i list (omega arith) in
-    let waits = posted_waits before (take i list) p.formed (omega (arith, n)) in
-    let slots = posted_slots before (take i list) in
-    subst (λ (w : ComWords). waiting w.head w.tail < length w.slots) (sym p.next) (omega (arith, waits, slots, n))
+posting_room = grind (arith, length-take-le, posted_waits, posted_slots)
 
 take_more : (xs : List Cqe) (i : ℕ) (x : Cqe) → slice_get xs i ≡ Some x → take (i + 1) xs ≡ take i xs ++ x ∷ []
 take_more xs i x g = grind (arith, common_steps, gets)

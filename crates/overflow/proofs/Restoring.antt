@@ -1,5 +1,5 @@
 -- Assigning the values of one backlog to another of the same length.
-use Rattle.std.proofs.Common.{◌≡◌, refl, sym, subst, length}
+use Rattle.std.proofs.Common.{◌≡◌, length, arith}
 use Rattle.std.specs.Prelude.{Some, None}
 use Rattle.places.specs.declared.place.Place.{Place}
 use Rattle.places.specs.declared.place.Place.TheVariants.{Backlog, BacklogFront}
@@ -11,17 +11,11 @@ use Rattle.overflow.specs.Backlogs.{BacklogState, BacklogFormed, backlog_seen, b
 
 -- Each value can be assigned.
 pub backlog_seen_can_put : (s m : BacklogState) → BacklogFormed s → length s.items ≡ length m.items → (p : Place) (v : Value) → backlog_seen s p ≡ Some v → backlog_can_put m p (Some v)
-backlog_seen_can_put s m f h (Backlog i) v e =
-    let k = some_here Completed s.items m.items i v h e in
-    subst (λ (w : Value). backlog_can_put m (Backlog i) (Some w)) (sym k.1.2) k.0
-backlog_seen_can_put s m f h BacklogFront v e = subst (backlog_can_put m BacklogFront) e f.front
-backlog_seen_can_put s m f h _ v e = absurd cc
+backlog_seen_can_put = grind (arith, some_here)
 
 -- The same places are absent in both backlogs.
 pub backlog_absent_same : (s m : BacklogState) → length s.items ≡ length m.items → (p : Place) → backlog_seen s p ≡ None → backlog_seen m p ≡ None
-backlog_absent_same s m h (Backlog i) e = none_here Completed s.items m.items i h e
-backlog_absent_same s m h BacklogFront e = absurd cc
-backlog_absent_same s m h _ e = refl
+backlog_absent_same = grind (arith, none_here)
 
 -- Backlogs with equal views are equal.
 pub same_backlog : (s m : BacklogState) → ((p : Place) → backlog_seen s p ≡ backlog_seen m p) → s ≡ m

@@ -1,6 +1,6 @@
 -- The view of a changed backlog.
-use Rattle.std.proofs.Common.{◌≡◌, ℕ, Bool, true, false, cond, refl, ◌∙◌, ap, [], ◌∷◌, ◌++◌, take, length, ◌<◌, ◌+◌}
-use Rattle.std.specs.Prelude.{Some, None, option_map, slice_get, slice_set, ◌==◌, ◌&&◌}
+use Rattle.std.proofs.Common.{◌≡◌, ℕ, [], ◌∷◌, ◌++◌, take, length, ◌<◌, ◌+◌, arith}
+use Rattle.std.specs.Prelude.{Some, None, slice_set}
 use Rattle.entries.specs.declared.completion.Cqe.{Cqe}
 use Rattle.places.specs.declared.place.Place.{Place}
 use Rattle.places.specs.declared.place.Place.TheVariants.{Backlog, BacklogFront}
@@ -13,35 +13,19 @@ use Rattle.overflow.specs.Backlogs.{BacklogState, backlog_seen}
 -- After the front is set.
 pub seen_front : (b : BacklogState) (n : ℕ) (q : Place) → backlog_seen (record b { front = n }) q ≡ put_at (backlog_seen b) BacklogFront (Some (Number n)) q
 unfolding same_place
-seen_front b n BacklogFront = refl
-seen_front b n _ = refl
+seen_front = grind arith
 
 -- After a completion is replaced.
 pub seen_item : (b : BacklogState) (i : ℕ) (c : Cqe) → i < length b.items → (q : Place) → backlog_seen (record b { items = slice_set b.items i c }) q ≡ put_at (backlog_seen b) (Backlog i) (Some (Completed c)) q
 unfolding same_place
-seen_item b i c h (Backlog j) = ap (option_map Completed) (slice_get-set b.items i j c h) ∙ chosen (i == j)
-  where
-    chosen : (t : Bool) → option_map Completed (cond t (Some c) (slice_get b.items j)) ≡ cond (t && true) (Some (Completed c)) (option_map Completed (slice_get b.items j))
-    chosen true = refl
-    chosen false = refl
-seen_item b i c h _ = refl
+seen_item = grind (arith, slice_get-set)
 
 -- After a completion is appended.
 pub seen_more : (b : BacklogState) (c : Cqe) (q : Place) → backlog_seen (record b { items = b.items ++ c ∷ [] }) q ≡ put_at (backlog_seen b) (Backlog (length b.items)) (Some (Completed c)) q
 unfolding same_place
-seen_more b c (Backlog j) = ap (option_map Completed) (slice_get-push b.items j c) ∙ chosen (length b.items == j)
-  where
-    chosen : (t : Bool) → option_map Completed (cond t (Some c) (slice_get b.items j)) ≡ cond (t && true) (Some (Completed c)) (option_map Completed (slice_get b.items j))
-    chosen true = refl
-    chosen false = refl
-seen_more b c _ = refl
+seen_more = grind (arith, slice_get-push)
 
 -- After the last completion is removed.
 pub seen_taken : (b : BacklogState) (i : ℕ) → i + 1 ≡ length b.items → (q : Place) → backlog_seen (record b { items = take i b.items }) q ≡ put_at (backlog_seen b) (Backlog i) None q
 unfolding same_place
-seen_taken b i h (Backlog j) = ap (option_map Completed) (slice_get-take b.items i j h) ∙ chosen (i == j)
-  where
-    chosen : (t : Bool) → option_map Completed (cond t None (slice_get b.items j)) ≡ cond (t && true) None (option_map Completed (slice_get b.items j))
-    chosen true = refl
-    chosen false = refl
-seen_taken b i h _ = refl
+seen_taken = grind (arith, slice_get-take)

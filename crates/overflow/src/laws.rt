@@ -1,4 +1,6 @@
 //! Theorems about the definitions: posting and flushing lose no completion and preserve the order.
+#![tactic(auto, using(crate::proofs::KeptInOrder::laws))]
+
 ghost use Rattle.std.specs.Prelude.{◌≡◌, ◌+◌, ◌++◌, not, min, length, true, false, List};
 ghost use Rattle.entries.specs.declared.completion.Cqe.{Cqe};
 ghost use Rattle.ring_words.specs.declared.flag.RingFlag.TheVariants.{CqOverflow};

@@ -1,13 +1,14 @@
 -- Facts about the flags word.
 use Rattle.std.proofs.Common.{◌≡◌, ℕ, zero, suc, Bool, true, false, refl, sym, ◌∙◌, ap, ◌*◌, ◌%◌, ◌-◌, ◌<◌, ◌^◌, ◌⊎◌, inl, inr, arith}
 use Rattle.std.specs.Prelude.{not, ◌==◌}
-use Rattle.std.proofs.lemmas.Nat.{or_lt, and_le_l, and_or_self, and_or_apart, and_assoc, and_comm, and_mask}
+use Rattle.std.proofs.lemmas.Nat.{or_lt, and_le_l, and_or_apart, and_assoc, and_comm, and_mask}
 use Rattle.std.proofs.lemmas.Nat.Bits.{bit_at-lt, and_pow}
 use Rattle.std.specs.Int.{bit_at}
-use Rattle.std.specs.Int.Bits.{bit_and, bit_or, and_zero_r, or_add_and}
+use Rattle.std.specs.Int.Bits.{bit_and, bit_or, or_add_and}
 use Rattle.ring_words.specs.declared.flag.RingFlag.{RingFlag}
 use Rattle.ring_words.specs.declared.flag.RingFlag.TheVariants.{NeedWakeup, CqOverflow}
 use Rattle.ring_words.specs.Rings.{bit_of, has_flag, with_flag}
+use Rattle.std.proofs.lemmas.Grind.{common_steps}
 
 -- The flags word still fits into 32 bits.
 pub with_flag_fits : (n : ℕ) (f : RingFlag) (on : Bool) → n < 2 ^ 32 → with_flag n f on < 2 ^ 32
@@ -17,14 +18,10 @@ with_flag_fits n f false h = let l = and_le_l n (2 ^ 32 - 1 - bit_of f) in omega
 
 -- A flag is set after setting it, and clear after clearing it.
 pub flag_set : (n : ℕ) (f : RingFlag) (on : Bool) → has_flag (with_flag n f on) f ≡ on
-flag_set n NeedWakeup true = ap (λ a. not (a == 0)) (and_or_self 1 n)
-flag_set n CqOverflow true = ap (λ a. not (a == 0)) (and_or_self 2 n)
-flag_set n NeedWakeup false = ap (λ a. not (a == 0)) (and_assoc 1 n 4294967294 ∙ and_zero_r n)
-flag_set n CqOverflow false = ap (λ a. not (a == 0)) (and_assoc 2 n 4294967293 ∙ and_zero_r n)
+flag_set = grind (arith, common_steps)
 
 pub overflow_kept : (n : ℕ) (on : Bool) → has_flag (with_flag n NeedWakeup on) CqOverflow ≡ has_flag n CqOverflow
-overflow_kept n true = ap (λ a. not (a == 0)) (and_or_apart 2 n 1 refl)
-overflow_kept n false = ap (λ a. not (a == 0)) (and_assoc 2 n 4294967294)
+overflow_kept = grind (arith, and_or_apart, and_assoc)
 
 -- Setting a bit that is set changes nothing.
 set_again : (n m : ℕ) → bit_and n m ≡ m → bit_or n m ≡ n
@@ -47,21 +44,13 @@ bit_cases n k = by (bit_at n k) (bit_at-lt n k) (and_pow n k)
 
 -- Setting a flag to its current value changes nothing.
 pub with_flag_same : (n : ℕ) (f : RingFlag) (on : Bool) → n < 2 ^ 32 → has_flag n f ≡ on → with_flag n f on ≡ n
-with_flag_same n NeedWakeup true h e = by (bit_cases n 0)
-  where
-    by : (bit_and n 1 ≡ 0) ⊎ (bit_and n 1 ≡ 1) → bit_or n 1 ≡ n
-    by (inl k) = let o : false ≡ true = ap (λ a. not (a == 0)) (sym k) ∙ e in absurd cc
-    by (inr k) = set_again n 1 k
+with_flag_same n NeedWakeup true h e = grind (arith, common_steps, bit_cases, set_again)
 with_flag_same n CqOverflow true h e = by (bit_cases n 1)
   where
     by : (bit_and n 2 ≡ 0) ⊎ (bit_and n 2 ≡ 2) → bit_or n 2 ≡ n
     by (inl k) = let o : false ≡ true = ap (λ a. not (a == 0)) (sym k) ∙ e in absurd cc
     by (inr k) = set_again n 2 k
-with_flag_same n NeedWakeup false h e = by (bit_cases n 0)
-  where
-    by : (bit_and n 1 ≡ 0) ⊎ (bit_and n 1 ≡ 1) → bit_and n 4294967294 ≡ n
-    by (inl k) = cleared_again n 1 4294967294 refl k h
-    by (inr k) = let o : true ≡ false = ap (λ a. not (a == 0)) (sym k) ∙ e in absurd cc
+with_flag_same n NeedWakeup false h e = grind (arith, common_steps)
 with_flag_same n CqOverflow false h e = by (bit_cases n 1)
   where
     by : (bit_and n 2 ≡ 0) ⊎ (bit_and n 2 ≡ 2) → bit_and n 4294967293 ≡ n

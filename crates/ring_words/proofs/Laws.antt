@@ -1,6 +1,6 @@
 -- Facts about the lists of pending elements and the invariants of the rings.
-use Rattle.std.proofs.Common.{◌≡◌, ℕ, zero, suc, Bool, true, false, cond, sym, ◌∙◌, List, [], ◌∷◌, ◌++◌, length, ◌+◌, ◌%◌, ◌<◌, ◌≤◌, ◌^◌, arith, length-set}
-use Rattle.std.specs.Prelude.{Some, slice_get, slice_set, ◌==◌}
+use Rattle.std.proofs.Common.{◌≡◌, ℕ, zero, suc, Bool, sym, ◌∙◌, List, [], ◌∷◌, ◌++◌, length, ◌+◌, ◌%◌, ◌<◌, ◌≤◌, ◌^◌, arith, length-set}
+use Rattle.std.specs.Prelude.{Some, slice_get, slice_set}
 use Rattle.std.proofs.Math.ListN.{replicate}
 use Rattle.std.proofs.lemmas.List.{length-replicate}
 use Rattle.std.proofs.lemmas.Nat.{mod_below}
@@ -29,25 +29,11 @@ unfolding com_list
 com_posted w c f l = list_back w.slots w.head w.tail c (size_some f.size) f.size.most (size_divides 8192 _ f.size) f.head f.tail l
 
 set_word : (xs : List ℕ) (j x : ℕ) → j < length xs → x < 2 ^ 32 → ((i y : ℕ) → slice_get xs i ≡ Some y → y < 2 ^ 32) → (i y : ℕ) → slice_get (slice_set xs j x) i ≡ Some y → y < 2 ^ 32
-set_word xs j x l b h i y e = by (j == i) (sym (slice_get-set xs j i x l) ∙ e)
-  where
-    by : (t : Bool) → cond t (Some x) (slice_get xs i) ≡ Some y → y < 2 ^ 32
-    by true k = let same : x ≡ y = cc in omega arith
-    by false k = h i y k
+set_word = grind (arith, slice_get-set)
 
 -- Each change preserves the invariant.
 pub formed_pushed : (w : SubWords) (x : ℕ) → SubFormed w → x < 2 ^ 32 → SubFormed (record w { tail = (w.tail + 1) % 2 ^ 32; array = slice_set w.array (w.tail % length w.array) x })
-formed_pushed w x f b =
-    let same = length-set w.array (w.tail % length w.array) x in
-    record {
-      size = rw same f.size;
-      slots = f.slots ∙ sym same;
-      head = f.head;
-      tail = omega arith;
-      flags = f.flags;
-      dropped = f.dropped;
-      words = set_word w.array (w.tail % length w.array) x (mod_below w.tail (length w.array) (size_some f.size)) b f.words;
-    }
+formed_pushed = grind (arith, length-set, set_word, mod_below, size_some)
 
 pub formed_taken : (w : SubWords) (head dropped : ℕ) → SubFormed w → head < 2 ^ 32 → dropped < 2 ^ 32 → SubFormed (record w { head = head; dropped = dropped })
 formed_taken w head dropped f a b = record { size = f.size; slots = f.slots; head = a; tail = f.tail; flags = f.flags; dropped = b; words = f.words }

@@ -1,11 +1,10 @@
 -- A ring is a queue: writing at the tail appends to the list, and reading at the head takes from
 -- its front.
-use Rattle.std.proofs.Common.{◌≡◌, ◌≢◌, ℕ, zero, suc, Bool, true, false, cond, refl, sym, ◌∙◌, ap, List, [], ◌∷◌, ◌++◌, length, drop, get_or, ◌+◌, ◌-◌, ◌%◌, ◌<◌, ◌≤◌, ◌^◌, ◌⊎◌, inl, inr, append_assoc, arith, length-set}
+use Rattle.std.proofs.Common.{◌≡◌, ◌≢◌, ℕ, zero, suc, Bool, true, false, cond, refl, sym, ◌∙◌, ap, List, [], ◌∷◌, ◌++◌, length, drop, get_or, ◌+◌, ◌-◌, ◌%◌, ◌<◌, ◌≤◌, ◌^◌, ◌⊎◌, inl, inr, arith, length-set, rules}
 use Rattle.std.specs.Prelude.{Some, None, option_to_list, slice_get, slice_set, ◌==◌}
 use Rattle.std.proofs.lemmas.Bool.{eqb-true}
 use Rattle.std.proofs.Math.Nat.{add-mod, mod-mod_of_dvd, mod-eq_of_lt, mod-eq-sub-mod}
 use Rattle.std.proofs.lemmas.Nat.{mod_below}
-use Rattle.std.proofs.lemmas.List.{append-nil}
 use Rattle.std.proofs.lemmas.Option.{slice_get_cases}
 use Rattle.std.proofs.lemmas.Bool.Decides.{leb_tells}
 use Rattle.std.specs.Int.{◌∣◌}
@@ -32,9 +31,7 @@ next_place a b n e = add-mod a 1 n ∙ ap (λ x. (x + 1 % n) % n) e ∙ sym (add
 
 items_same : {X : Type 0} (xs : List X) (a b n : ℕ) → a % length xs ≡ b % length xs → items_from xs a n ≡ items_from xs b n
 items_same xs a b zero e = refl
-items_same xs a b (suc n) e =
-    ap (λ i. option_to_list (slice_get xs i) ++ items_from xs (a + 1) n) e
-    ∙ ap (λ ys. option_to_list (slice_get xs (b % length xs)) ++ ys) (items_same xs (a + 1) (b + 1) n (next_place a b (length xs) e))
+items_same xs a b (suc n) e = grind (arith, items_same xs (a + 1) (b + 1) n (next_place a b (length xs) e))
 
 -- Counter values modulo 2 ^ 32 have the same indexes.
 pub items_wrapped : {X : Type 0} (xs : List X) (h n : ℕ) → length xs ∣ 2 ^ 32 → items_from xs h n ≡ items_from xs (h % 2 ^ 32) n
@@ -51,12 +48,7 @@ item_here {X = X} xs h s = by (slice_get_cases xs (h % length xs)).1
 -- Taking one element drops the first of the list.
 pub list_front : {X : Type 0} (xs : List X) (h t : ℕ) (x : X) → length xs ∣ 2 ^ 32 → h < 2 ^ 32 → t < 2 ^ 32 → 0 < waiting h t → slice_get xs (h % length xs) ≡ Some x
     → items_from xs h (waiting h t) ≡ x ∷ items_from xs ((h + 1) % 2 ^ 32) (waiting ((h + 1) % 2 ^ 32) t)
-list_front xs h t x d a b c here =
-    let k = waiting_less h t a b c in
-    let e : waiting h t ≡ suc (waiting ((h + 1) % 2 ^ 32) t) = omega arith in
-    ap (items_from xs h) e
-    ∙ ap (λ o. option_to_list o ++ items_from xs (h + 1) (waiting ((h + 1) % 2 ^ 32) t)) here
-    ∙ ap (λ ys. x ∷ ys) (items_wrapped xs (h + 1) _ d)
+list_front = search (rules, waiting_less, items_wrapped)
 
 items_drop : {X : Type 0} (xs : List X) (h n k : ℕ) → 0 < length xs → k ≤ n → items_from xs (h + k) (n - k) ≡ drop k (items_from xs h n)
 items_drop xs h n zero s l = let e : h + 0 ≡ h = omega arith in let f : n - 0 ≡ n = omega arith in ap (λ a. items_from xs a (n - 0)) e ∙ ap (items_from xs h) f
@@ -98,15 +90,8 @@ items_length xs h (suc n) s =
     ap (λ o. length (option_to_list o ++ items_from xs (h + 1) n)) here.1 ∙ ap suc (items_length xs (h + 1) n s)
 
 items_more : {X : Type 0} (xs : List X) (h n : ℕ) → items_from xs h (n + 1) ≡ items_from xs h n ++ option_to_list (slice_get xs ((h + n) % length xs))
-items_more xs h zero =
-    let e : h ≡ h + 0 = omega arith in
-    append-nil _ ∙ ap (λ k. option_to_list (slice_get xs (k % length xs))) e
-items_more xs h (suc n) =
-    let e : suc n + 1 ≡ suc (n + 1) = omega arith in
-    let f : (h + 1) + n ≡ h + suc n = omega arith in
-    ap (items_from xs h) e
-    ∙ ap (λ ys. option_to_list (slice_get xs (h % length xs)) ++ ys) (items_more xs (h + 1) n ∙ ap (λ k. items_from xs (h + 1) n ++ option_to_list (slice_get xs (k % length xs))) f)
-    ∙ sym (append_assoc (option_to_list (slice_get xs (h % length xs))) (items_from xs (h + 1) n) _)
+items_more xs h zero = grind arith
+items_more xs h (suc n) = grind (arith, items_more xs (h + 1) n)
 
 -- Writing an index that the list doesn't include leaves the list unchanged.
 items_other : {X : Type 0} (xs : List X) (j : ℕ) (x : X) (h n : ℕ) → j < length xs → ((i : ℕ) → i < n → (h + i) % length xs ≢ j) → items_from (slice_set xs j x) h n ≡ items_from xs h n

@@ -1,7 +1,7 @@
 -- Facts about the sizes of rings.
-use Rattle.std.proofs.Common.{length, slice_index_or, ◌≡◌, ◌-◌, ◌*◌, ℕ, zero, suc, Bool, true, false, cond, refl, sym, ◌∙◌, ap, List, [], ◌∷◌, ◌+◌, ◌/◌, ◌%◌, ◌<◌, ◌≤◌, ◌^◌, ◌⊎◌, inl, inr, nat_lt, subst, arith, pow_mono, pow-add}
+use Rattle.std.proofs.Common.{length, slice_index_or, ◌≡◌, ◌*◌, ℕ, zero, suc, Bool, true, false, cond, refl, sym, ap, List, [], ◌∷◌, ◌+◌, ◌/◌, ◌<◌, ◌≤◌, ◌^◌, ◌⊎◌, inl, inr, nat_lt, subst, arith, pow_mono}
 use Rattle.std.proofs.lemmas.Bool.{ltb-true, ltb-false}
-use Rattle.std.proofs.Math.Nat.{pow-succ', mul-mod_right}
+use Rattle.std.proofs.Math.Nat.{pow-succ'}
 use Rattle.std.proofs.Math.Dec.{leb}
 use Rattle.std.proofs.lemmas.Bool.Decides.{leb_tells}
 use Rattle.std.proofs.lemmas.Nat.{pow_pos}
@@ -18,35 +18,19 @@ sizes_are : sizes ≡ powers 0 13
 unfolding powers
 sizes_are = refl
 
--- The power at index i.
-power_at : (k j i n : ℕ) → i < length (powers k j) → slice_index_or (powers k j) i n ≡ 2 ^ (k + i)
-unfolding powers
-power_at k zero zero n l = ap (λ m. 2 ^ m) (omega arith)
-power_at k zero (suc i) n l = absurd (omega (arith, l))
-power_at k (suc j) zero n l = ap (λ m. 2 ^ m) (omega arith)
-power_at k (suc j) (suc i) n l = power_at (suc k) j i n (omega (arith, l)) ∙ ap (λ m. 2 ^ m) (omega arith)
-
 size_at : (i n : ℕ) → i < length sizes → slice_index_or sizes i n ≡ 2 ^ i
-size_at i n l =
-    let there = power_at 0 13 i n (subst (λ (ps : List ℕ). i < length ps) sizes_are l) in
-    let same : 2 ^ (0 + i) ≡ 2 ^ i = ap (λ k. 2 ^ k) (omega arith) in
-    ap (λ ps. slice_index_or ps i n) sizes_are ∙ (there ∙ same)
+size_at = grind arith
 
 -- A size is 2 to the power of its index in the list.
 size_is : (limit n : ℕ) → IsSize limit n → (i : ℕ) × (i < 14) × (n ≡ 2 ^ i)
-size_is limit n h =
-    let (i, l, e) = h.power in
-    (i, l, sym e ∙ size_at i n l)
+size_is = grind arith
 
 pub size_some : {limit n : ℕ} → IsSize limit n → 0 < n
 size_some {limit} {n} h = let (i, l, e) = size_is limit n h in let p = pow_pos i in omega (arith, e, p)
 
 -- Each size divides 2 ^ 32, so counters wrap at a multiple of it.
 pub size_divides : (limit n : ℕ) → IsSize limit n → n ∣ 2 ^ 32
-size_divides limit n h =
-    let (i, l, e) = size_is limit n h in
-    let parts : 32 ≡ i + (32 - i) = omega arith in
-    dvd_of_mod-eq-zero n (subst (λ (x : ℕ). 2 ^ 32 % x ≡ 0) (sym e) (ap (λ k. 2 ^ k % 2 ^ i) parts ∙ ap (λ x. x % 2 ^ i) (pow-add 2 i (32 - i)) ∙ mul-mod_right (2 ^ i) (2 ^ (32 - i))))
+size_divides = grind (arith, dvd_of_mod-eq-zero)
 
 -- The first power in the list that is at least n is the smallest one.
 walk : (n k j : ℕ) → 0 < n → n ≤ 2 ^ (k + j) → 2 ^ k / 2 < n → IsNextPowerOfTwo n (first_not_below n (powers k j))
@@ -85,25 +69,11 @@ not_below n a b s l h = by (leb_tells b a)
 
 -- The next power of two is unique.
 pub next_is_one : (n p q : ℕ) → 0 < n → IsNextPowerOfTwo n p → IsNextPowerOfTwo n q → p ≡ q
-next_is_one n p q s h k =
-    let a : n ≤ 2 ^ h.0.0 = omega (arith, h.0.1, h.1) in
-    let b : n ≤ 2 ^ k.0.0 = omega (arith, k.0.1, k.1) in
-    let c : 2 ^ h.0.0 / 2 < n = subst (λ (x : ℕ). x / 2 < n) h.0.1 (omega (arith, h.2)) in
-    let d : 2 ^ k.0.0 / 2 < n = subst (λ (x : ℕ). x / 2 < n) k.0.1 (omega (arith, k.2)) in
-    let e : h.0.0 ≡ k.0.0 = omega (arith, not_below n h.0.0 k.0.0 s a d, not_below n k.0.0 h.0.0 s b c) in
-    h.0.1 ∙ ap (λ i. 2 ^ i) e ∙ sym k.0.1
+next_is_one = grind (arith, not_below)
 
 -- The next power of two is a size, if n is within the limit 2 ^ l.
 pub next_size : (n p l : ℕ) → 0 < n → n ≤ 2 ^ l → l ≤ 13 → IsNextPowerOfTwo n p → IsSize (2 ^ l) p
-next_size n p l s m few h =
-    let d : 2 ^ h.0.0 / 2 < n = subst (λ (x : ℕ). x / 2 < n) h.0.1 (omega (arith, h.2)) in
-    let b : h.0.0 ≤ l = not_below n l h.0.0 s m d in
-    let here : h.0.0 < length sizes = omega arith in
-    let most : 2 ^ h.0.0 ≤ 2 ^ l = pow_mono {i = h.0.0} {j = l} b in
-    record {
-      power = (h.0.0, here, size_at h.0.0 p here ∙ sym h.0.1);
-      most = omega (arith, h.0.1, most);
-    }
+next_size = grind (arith, not_below, pow_mono, size_at)
 
 pub rounded_size : (n l : ℕ) → 0 < n → n ≤ 2 ^ l → l ≤ 13 → n ≤ 8192 → IsSize (2 ^ l) (rounded n)
 rounded_size n l s m few k = next_size n (rounded n) l s m few (rounded_next n s k)

@@ -4,6 +4,7 @@ ghost use Rattle.std.specs.Int.{IsNextPowerOfTwo};
 ghost use Rattle.ring_words.specs.Rings.{rounded};
 
 /// Returns the smallest power of two that is at least `entries`.
+#[tactic(auto, using(crate::proofs::Sizes::next_is_one, crate::proofs::Sizes::rounded_next))]
 pub(crate) fn size_for(entries: u32) -> usize
     requires some { 0 < entries }
     requires most { entries ≤ 8192 }

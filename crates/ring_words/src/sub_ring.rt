@@ -229,6 +229,7 @@ impl SubRing {
     }
 
     /// Returns how many words of the index array are pending.
+    #[tactic(auto, using(crate::proofs::Laws::sub_length))]
     pub fn waiting(&self) -> u32
         ensures value { result ≡ waiting self.now.head self.now.tail }
         ensures list { result ≡ length (sub_list self.now) }
@@ -353,6 +354,7 @@ impl SubRing {
     }
 
     /// Sets or clears a flag, and leaves the others unchanged.
+    #[tactic(auto, using(crate::proofs::Flags::with_flag_same))]
     pub fn set_flag(&mut self, flag: RingFlag, on: bool, notes: &mut Recorder)
         requires { 0 < notes.old.numbers }
         ensures next { self.new ≡ record self.old { flags = with_flag self.old.flags flag on } }

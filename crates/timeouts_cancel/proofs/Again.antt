@@ -1,5 +1,5 @@
 -- Applying the rules of the cascade again adds nothing.
-use Rattle.std.proofs.Common.{◌≡◌, ℕ, ℤ, zero, suc, Bool, true, false, cond, refl, ◌∙◌, ap, List, [], ◌∷◌}
+use Rattle.std.proofs.Common.{◌≡◌, ℕ, ℤ, zero, suc, Bool, true, false, cond, refl, ◌∙◌, ap, List, [], ◌∷◌, arith}
 use Rattle.std.specs.Prelude.{Option, Some, None, slice_get, ◌==◌, ◌||◌}
 use Rattle.std.specs.Option.{option_and_then}
 use Rattle.std.specs.List.{list_any}
@@ -15,11 +15,7 @@ use Rattle.links_drains.proofs.Listing.{result_of, listed_at, alike}
 pub any_at : {X : Type 0} (p : X → Bool) (xs : List X) (i : ℕ) (x : X) → slice_get xs i ≡ Some x → p x ≡ true → list_any p xs ≡ true
 any_at p [] i x h k = absurd cc
 any_at p (y ∷ ys) zero x h k = let e : y ≡ x = cc in ap (λ b. b || list_any p ys) (ap p e ∙ k)
-any_at {X} p (y ∷ ys) (suc i) x h k = by (p y) (any_at p ys i x h k)
-  where
-    by : (b : Bool) → list_any p ys ≡ true → (b || list_any p ys) ≡ true
-    by true e = refl
-    by false e = e
+any_at {X} p (y ∷ ys) (suc i) x h k = grind (arith, any_at p ys i x h k)
 
 pub any_found : {X : Type 0} (p : X → Bool) (xs : List X) → list_any p xs ≡ true → (i : ℕ) × (x : X) × (slice_get xs i ≡ Some x) × (p x ≡ true)
 any_found p [] h = absurd cc
@@ -48,16 +44,13 @@ pub listed_row : (f : ℕ → Row → Option ℤ) (rows : List Row) (r : ℕ) (r
 listed_row f rows r row h u = listed_at f rows r ∙ ap (option_and_then (result_of f r)) h ∙ ap (λ b. cond b (f r row) None) u
 
 pub or_else_none : (a b : Option ℤ) → or_else a b ≡ None → (a ≡ None) × (b ≡ None)
-or_else_none None b h = (refl, h)
-or_else_none (Some x) b h = absurd cc
+or_else_none = grind arith
 
 pub given_none : (b : Bool) (res : ℤ) → given b res ≡ None → b ≡ false
-given_none true res h = absurd cc
-given_none false res h = refl
+given_none = grind arith
 
 pub given_is : (b : Bool) (res got : ℤ) → given b res ≡ Some got → (b ≡ true) × (got ≡ res)
-given_is true res got h = (refl, cc)
-given_is false res got h = absurd cc
+given_is = grind arith
 
 -- ---- A rule without results for unlisted rows adds nothing
 

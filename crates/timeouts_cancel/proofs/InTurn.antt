@@ -1,23 +1,13 @@
 -- Two searches for a match in turn: upwards through the issued requests, and downwards through those
 -- with a hash.
-use Rattle.std.proofs.Common.{◌≡◌, ℕ, ℤ, zero, suc, Bool, true, false, not, cond, refl, sym, ◌∙◌, ap, subst, List, [], ◌∷◌, length, pos, negsuc, ◌+◌, ◌-◌, ◌<◌, ◌≤◌, inl, inr, arith}
-use Rattle.std.specs.Prelude.{Option, Some, None, IfNone, IfSome, slice_get, ◌==◌, ◌&&◌}
-use Rattle.std.proofs.lemmas.Bool.{and_left, both_ways, cases_eq, cases_lt, eq-eqb, ne_eqb}
+use Rattle.std.proofs.Common.{◌≡◌, ℕ, zero, suc, Bool, true, false, cond, refl, sym, ◌∙◌, ap, subst, List, [], ◌∷◌, length, ◌+◌, ◌-◌, ◌<◌, ◌≤◌, inl, inr, arith}
+use Rattle.std.specs.Prelude.{Option, Some, None, IfSome, slice_get, ◌==◌}
+use Rattle.std.proofs.lemmas.Bool.{cases_lt}
 use Rattle.std.proofs.lemmas.Option.{slice_get_within}
 use Rattle.entries.specs.declared.row.Row.{Row}
-use Rattle.links_drains.specs.Finders.{holds_now, NoUser}
-use Rattle.links_drains.specs.Holding.{is_number}
-use Rattle.links_drains.specs.Links.{is_guard}
-use Rattle.links_drains.specs.Numbered.{IsNextWhere, NoneWhere}
-use Rattle.links_drains.specs.Phases.{is_issued}
-use Rattle.links_drains.specs.Units.{IsNextIssued, NoneIssuedFrom}
+use Rattle.links_drains.specs.Finders.{NoUser}
 use Rattle.timeouts_cancel.specs.declared.matching.Key.{Key}
-use Rattle.timeouts_cancel.specs.declared.matching.Key.TheVariants.{User, Fd, Poll, Timeout}
-use Rattle.timeouts_cancel.specs.Matches.{fits_key, holds_number, is_match, user_of, FoundPast, IsMatch, IsNextCandidate, IsNextMatch, NoCandidateFrom, NoMatch, NoMatchFrom, Passed}
-
-no_and : (b : Bool) → (b && false) ≡ false
-no_and true = refl
-no_and false = refl
+use Rattle.timeouts_cancel.specs.Matches.{fits_key, is_match, user_of, FoundPast, IsMatch, NoMatch}
 
 -- ---- Requests that can't match
 
@@ -25,16 +15,11 @@ pub one_fails : (rows : List Row) (key : Key) (me r : ℕ) (row : Row) → slice
 one_fails rows key me r row h fails = λ x g. let same : row ≡ x = let k : Some row ≡ Some x = sym h ∙ g in cc in ap (is_match key me r) (sym same) ∙ fails
 
 unfit : (key : Key) (me r : ℕ) (row : Row) → fits_key key row ≡ false → is_match key me r row ≡ false
-unfit key me r row h =
-    ap (λ b. is_issued row.phase && (not (is_guard row) && (not (r == me) && b))) h
-    ∙ ap (λ b. is_issued row.phase && (not (is_guard row) && b)) (no_and (not (r == me))) ∙ ap (λ b. is_issued row.phase && b) (no_and (not (is_guard row))) ∙ no_and (is_issued row.phase)
+unfit = grind arith
 
 -- A request with another user_data.
 other_user : (key : Key) (user_data : ℕ) (row : Row) → user_of key ≡ Some user_data → (row.entry.user_data == user_data) ≡ false → fits_key key row ≡ false
-other_user (User n) user_data row e h = let k : n ≡ user_data = cc in ap (λ m. row.entry.user_data == m) k ∙ h
-other_user (Fd number) user_data row e h = absurd cc
-other_user (Poll n) user_data row e h = let k : n ≡ user_data = cc in ap (λ m. (row.entry.opcode == 6) && (row.entry.user_data == m)) k ∙ ap (λ b. (row.entry.opcode == 6) && b) h ∙ no_and (row.entry.opcode == 6)
-other_user (Timeout n) user_data row e h = let k : n ≡ user_data = cc in ap (λ m. (row.entry.opcode == 11) && (row.entry.user_data == m)) k ∙ ap (λ b. (row.entry.opcode == 11) && b) h ∙ no_and (row.entry.opcode == 11)
+other_user = grind arith
 
 without_user : (rows : List Row) (key : Key) (me user_data low high : ℕ) → user_of key ≡ Some user_data → NoUser user_data rows low high → (i : ℕ) (x : Row) → low ≤ i → i < high → slice_get rows i ≡ Some x → is_match key me i x ≡ false
 without_user rows key me user_data low high e none i x l k g = unfit key me i x (other_user key user_data x e (none i x l k g))
@@ -46,16 +31,7 @@ found_none rows key me user_data from end e none = λ i x low g. without_user ro
 
 -- The last request matches.
 pub found_last : (rows : List Row) (key : Key) (me user_data from last end : ℕ) (p : ℕ × Row) → user_of key ≡ Some user_data → from ≤ last → end ≤ last → NoUser user_data rows end last → IsMatch rows key me last p → FoundPast rows key me from end (Some p)
-found_last rows key me user_data from last end p e low below none m =
-    let n = m.number in (
-      omega (arith, low, n),
-      record {
-        after = omega (arith, below, n);
-        there = ap (slice_get rows) n ∙ m.there;
-        matching = ap (λ r. is_match key me r p.1) n ∙ m.matching;
-        least = λ i x l k g. without_user rows key me user_data end last e none i x l (omega (arith, k, n)) g;
-      },
-    )
+found_last = grind arith
 
 -- It doesn't.
 pub found_before : (rows : List Row) (key : Key) (me user_data from last end : ℕ) (least : Option (ℕ × Row)) → user_of key ≡ Some user_data → end ≤ last → NoUser user_data rows end last → NoMatch rows key me last → FoundPast rows key me from (last + 1) least → FoundPast rows key me from end least
@@ -101,90 +77,7 @@ there [] i h = absurd (omega (arith, h))
 there (x ∷ rows) zero h = (x, refl)
 there (x ∷ rows) (suc i) h = there rows i (omega (arith, h))
 
-pub chosen : (rows : List Row) (r : ℕ) (x row : Row) (b : Bool) (test : Row → Bool) (later : Option (ℕ × Row)) → slice_get rows r ≡ Some x → b ≡ test x → slice_get rows r ≡ Some row → cond b (Some (r, x)) later ≡ cond (test row) (Some (r, row)) later
-chosen rows r x row b test later h e g =
-    let same : x ≡ row = let k : Some x ≡ Some row = sym h ∙ g in cc in
-    ap (λ c. cond c (Some (r, x)) later) (e ∙ ap test same) ∙ ap (λ y. cond (test row) (Some (r, y)) later) same
-
 -- ---- They meet
 
-pub met_none : (rows : List Row) (key : Key) (me from at end : ℕ) (o : Option (ℕ × Row)) → Passed rows key me from at → end ≤ at → FoundPast rows key me from end o → IfNone o (NoMatchFrom rows key me from)
-met_none rows key me from at end None p m h = λ i x low g. elim (cases_lt i at) [ inl less ↦ p.none i x low less g | inr more ↦ h i x (omega (arith, more, m)) g ]
-met_none rows key me from at end (Some q) p m h = tt
-
-pub met_some : (rows : List Row) (key : Key) (me from at end : ℕ) (o : Option (ℕ × Row)) → Passed rows key me from at → end ≤ at → FoundPast rows key me from end o → IfSome o (λ q. IsNextMatch rows key me from q.0 q.1)
-met_some rows key me from at end None p m h = tt
-met_some rows key me from at end (Some q) p m h = record {
-  after = h.0;
-  there = h.1.there;
-  matching = h.1.matching;
-  least = λ i x low high g. elim (cases_lt i at) [ inl less ↦ p.none i x low less g | inr more ↦ h.1.least i x (omega (arith, more, m)) high g ];
-}
-
 pub met_few : (rows : List Row) (key : Key) (me from end : ℕ) (o : Option (ℕ × Row)) → length rows ≤ 65536 → FoundPast rows key me from end o → IfSome o (λ q. q.0 < 65536)
-met_few rows key me from end None few h = tt
-met_few rows key me from end (Some q) few h = let w = slice_get_within rows q.0 q.1 h.1.there in omega (arith, w, few)
-
--- ---- From one candidate to the next
-
-pub passed_candidate : (rows : List Row) (key : Key) (me from at r : ℕ) → Passed rows key me from at → IsNextCandidate rows key at r → NoMatch rows key me r → Passed rows key me from (r + 1)
-passed_candidate rows key me from at r p c fails = record {
-  after = let a = p.after in let b = c.after in omega (arith, a, b);
-  none = λ i x low high g. elim (cases_lt i at) [
-    | inl less ↦ p.none i x low less g
-    | inr more ↦ elim (cases_lt i r) [
-      | inl before ↦ c.skipped me i x more before g
-      | inr last ↦ let s : i ≡ r = omega (arith, last, high) in ap (λ n. is_match key me n x) s ∙ fails x (ap (slice_get rows) (sym s) ∙ g)
-    ]
-  ];
-}
-
-pub candidate_found : (rows : List Row) (key : Key) (me from at r : ℕ) (q : ℕ × Row) → Passed rows key me from at → IsNextCandidate rows key at r → IsMatch rows key me r q → IsNextMatch rows key me from q.0 q.1
-candidate_found rows key me from at r q p c m =
-    let n = m.number in
-    record {
-      after = let a = p.after in let b = c.after in omega (arith, a, b, n);
-      there = ap (slice_get rows) n ∙ m.there;
-      matching = ap (λ k. is_match key me k q.1) n ∙ m.matching;
-      least = λ i x low high g. elim (cases_lt i at) [ inl less ↦ p.none i x low less g | inr more ↦ c.skipped me i x more (omega (arith, high, n)) g ];
-    }
-
-pub candidates_passed : (rows : List Row) (key : Key) (me from at : ℕ) → Passed rows key me from at → NoCandidateFrom rows key at → NoMatchFrom rows key me from
-candidates_passed rows key me from at p none i x low g = elim (cases_lt i at) [ inl less ↦ p.none i x low less g | inr more ↦ none me i x more g ]
-
--- ---- Candidates
-
-pub issued_candidate : (rows : List Row) (key : Key) (from r : ℕ) → IsNextIssued rows from r → IsNextCandidate rows key from r
-issued_candidate rows key from r n = record { after = n.after; within = slice_get_within rows r n.row n.there; skipped = λ me i x low high g. and_left _ _ (n.least i x low high g) }
-
-pub none_issued : (rows : List Row) (key : Key) (from : ℕ) → NoneIssuedFrom rows from → NoCandidateFrom rows key from
-none_issued rows key from h = λ me i x low g. and_left _ _ (h i x low g)
-
-swapped : (a b : ℕ) → (a == b) ≡ false → (b == a) ≡ false
-swapped a b h = elim (cases_eq b a) [ inl same ↦ absurd (both_ways (a == b) h (eq-eqb a b (sym same))) | inr other ↦ ne_eqb b a other ]
-
--- A request that doesn't hold the descriptor.
-no_holder : (fd me i : ℕ) (row : Row) → holds_now fd row ≡ false → is_match (Fd (pos fd)) me i row ≡ false
-no_holder fd me i row h = by (is_issued row.phase) refl h
-  where
-    held : (o : Option ℕ) → is_number o fd ≡ false → holds_number o (pos fd) ≡ false
-    held None e = refl
-    held (Some n) e = swapped n fd e
-
-    by : (b : Bool) → is_issued row.phase ≡ b → (b && is_number row.held fd) ≡ false → is_match (Fd (pos fd)) me i row ≡ false
-    by false e k = and_left _ _ e
-    by true e k = unfit (Fd (pos fd)) me i row (held row.held k)
-
-pub holder_candidate : (rows : List Row) (number : ℤ) (fd from r : ℕ) → number ≡ pos fd → IsNextWhere (holds_now fd) rows from r → IsNextCandidate rows (Fd number) from r
-holder_candidate rows number fd from r e n = rw e (record { after = n.after; within = slice_get_within rows r n.row n.there; skipped = λ me i x low high g. no_holder fd me i x (n.least i x low high g) })
-
-pub none_holder : (rows : List Row) (number : ℤ) (fd from : ℕ) → number ≡ pos fd → NoneWhere (holds_now fd) rows from → NoCandidateFrom rows (Fd number) from
-none_holder rows number fd from e h = rw e (λ me i x low g. no_holder fd me i x (h i x low g))
-
--- No descriptor is negative.
-pub negative : (rows : List Row) (n from : ℕ) → NoCandidateFrom rows (Fd (negsuc n)) from
-negative rows n from = λ me i x low g. unfit (Fd (negsuc n)) me i x (by x.held)
-  where
-    by : (o : Option ℕ) → holds_number o (negsuc n) ≡ false
-    by None = refl
-    by (Some fd) = refl
+met_few = grind (arith, slice_get_within)

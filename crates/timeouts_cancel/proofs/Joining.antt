@@ -1,8 +1,7 @@
 -- Merging two lists of completions, one by one.
-use Rattle.std.proofs.Common.{◌≡◌, ℕ, ℤ, Bool, true, false, cond, refl, sym, ◌∙◌, ap, List, [], ◌∷◌, ◌++◌, length, ◌+◌, ◌-◌, ◌<◌, ◌≤◌, ◌⊎◌, inl, inr, arith}
+use Rattle.std.proofs.Common.{◌≡◌, ℕ, ℤ, sym, ◌∙◌, ap, List, [], ◌∷◌, ◌++◌, length, ◌+◌, ◌-◌, ◌<◌, ◌≤◌, arith}
 use Rattle.std.specs.Prelude.{Option, Some, None, slice_get}
 use Rattle.entries.specs.declared.row.Row.{Row}
-use Rattle.links_drains.specs.Phases.{is_unfinished}
 use Rattle.links_drains.specs.Endings.{Ending, result_in, paired, or_else, Direct}
 use Rattle.links_drains.proofs.Listing.{result_of}
 use Rattle.timeouts_cancel.specs.Cascades.{joined}
@@ -16,24 +15,13 @@ abbrev pub both_of : List Ending → List Ending → ℕ → Row → Option ℤ
 both_of first second r row = or_else (result_in first r) (result_in second r)
 
 neither : (first second : List Ending) (r : ℕ) (row : Row) → result_in first r ≡ None → result_in second r ≡ None → result_of (both_of first second) r row ≡ None
-neither first second r row a b = ap (λ o. cond (is_unfinished row.phase) (or_else o (result_in second r)) None) a ∙ ap (λ o. cond (is_unfinished row.phase) o None) b ∙ none (is_unfinished row.phase)
-  where
-    nothing : Option ℤ
-    nothing = None
-
-    none : (u : Bool) → cond u nothing None ≡ None
-    none true = refl
-    none false = refl
+neither = grind arith
 
 -- ---- The next completion of the two lists
 
 -- It is for none of the rows already merged.
 pub least_on : (rows : List Row) (first second : List Ending) (k i j : ℕ) (es : List Ending) (e : Ending) → Merged rows first second k i j es → IsLeast first second i j e → k ≤ e.0
-least_on rows first second k i j es e m least = by least.from
-  where
-    by : (slice_get first i ≡ Some e) ⊎ ((slice_get second j ≡ Some e) × ((x : Ending) → slice_get first i ≡ Some x → e.0 < x.0)) → k ≤ e.0
-    by (inl h) = m.firsts.above i e h (omega arith)
-    by (inr w) = m.seconds.above j e w.0 (omega arith)
+least_on = grind arith
 
 pub firsts_least : (rows : List Row) (first second : List Ending) (k i j : ℕ) (es : List Ending) (e : Ending) → Direct rows first → Merged rows first second k i j es → IsLeast first second i j e → Splits first e.0 i
 firsts_least rows first second k i j es e d m least = splits_to first k i e.0 d.rising m.firsts (least_on rows first second k i j es e m least) least.first_later
@@ -44,21 +32,7 @@ seconds_least rows first second k i j es e d m least = splits_to second k j e.0 
 -- It is for an unfinished row, and has the result of the merged list.
 there_is : (rows : List Row) (first second : List Ending) (k i j : ℕ) (es : List Ending) (e : Ending) → Direct rows first → Direct rows second → Merged rows first second k i j es → IsLeast first second i j e
     → (row : Row) × (slice_get rows e.0 ≡ Some row) × (result_of (both_of first second) e.0 row ≡ Some e.1)
-there_is rows first second k i j es e d f m least = by least.from
-  where
-    gives : (row : Row) → is_unfinished row.phase ≡ true → or_else (result_in first e.0) (result_in second e.0) ≡ Some e.1 → result_of (both_of first second) e.0 row ≡ Some e.1
-    gives row u g = ap (λ b. cond b (or_else (result_in first e.0) (result_in second e.0)) None) u ∙ g
-
-    by : (slice_get first i ≡ Some e) ⊎ ((slice_get second j ≡ Some e) × ((x : Ending) → slice_get first i ≡ Some x → e.0 < x.0)) → (row : Row) × (slice_get rows e.0 ≡ Some row) × (result_of (both_of first second) e.0 row ≡ Some e.1)
-    by (inl h) =
-        let w = d.each i e h in
-        (w.0, w.1, gives w.0 w.2 (ap (λ o. or_else o (result_in second e.0)) (result_at first i e d.rising h)))
-    by (inr g) =
-        let w = f.each j e g.0 in
-        let low = least_on rows first second k i j es e m least in
-        let beyond = splits_to first k i (e.0 + 1) d.rising m.firsts (omega (arith, low)) (λ x h. let l = g.1 x h in omega (arith, l)) in
-        let out = splits_out first k (e.0 + 1) i e.0 m.firsts beyond low (omega arith) in
-        (w.0, w.1, gives w.0 w.2 (ap (λ o. or_else o (result_in second e.0)) out ∙ result_at second j e f.rising g.0))
+there_is = grind (arith, result_of, result_at, least_on, splits_to, splits_out)
 
 pub merged_next : (rows : List Row) (first second : List Ending) (k i j p q : ℕ) (es fs : List Ending) (e : Ending) → Direct rows first → Direct rows second → Merged rows first second k i j es → IsLeast first second i j e
     → Splits first (e.0 + 1) p → Splits second (e.0 + 1) q → fs ≡ es ++ e ∷ [] → Merged rows first second (e.0 + 1) p q fs

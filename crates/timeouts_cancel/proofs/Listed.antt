@@ -1,14 +1,12 @@
 -- Lists of completions: their length, and where a row number splits them.
-use Rattle.std.proofs.Common.{◌≡◌, ℕ, ℤ, Bool, true, false, cond, refl, sym, ◌∙◌, ap, List, [], ◌∷◌, length, ◌+◌, ◌<◌, ◌≤◌, ◌⊎◌, inl, inr, arith}
+use Rattle.std.proofs.Common.{◌≡◌, ℕ, ℤ, Bool, true, false, cond, refl, sym, ◌∙◌, ap, List, [], ◌∷◌, length, ◌+◌, ◌<◌, ◌≤◌, arith}
 use Rattle.std.specs.Prelude.{Option, Some, None, slice_get, ◌==◌}
-use Rattle.std.specs.List.{cons_option}
-use Rattle.std.proofs.lemmas.Bool.{eqb-true}
 use Rattle.std.proofs.lemmas.List.{take_all}
 use Rattle.std.proofs.lemmas.Option.{slice_get_within}
 use Rattle.entries.specs.declared.row.Row.{Row}
 use Rattle.links_drains.specs.Phases.{is_unfinished}
-use Rattle.links_drains.specs.Endings.{Ending, result_in, paired, endings, endings_from, or_else, Direct}
-use Rattle.links_drains.proofs.Listing.{endings_step, result_of, alike}
+use Rattle.links_drains.specs.Endings.{Ending, result_in, endings, endings_from, or_else, Direct}
+use Rattle.links_drains.proofs.Listing.{result_of, alike}
 use Rattle.links_drains.proofs.Rising.{ends_at, rising}
 use Rattle.timeouts_cancel.specs.Cascades.{joined}
 use Rattle.timeouts_cancel.specs.Merges.{Rises, Splits}
@@ -16,6 +14,7 @@ use Rattle.timeouts_cancel.specs.Walks.{upto}
 use Rattle.timeouts_cancel.proofs.Again.{listed_row}
 use Rattle.timeouts_cancel.proofs.Sweeping.{none_within}
 use Rattle.timeouts_cancel.proofs.Walking.{split, undirected, upto_gap}
+use Rattle.std.proofs.lemmas.Grind.{common_steps}
 
 -- ---- What a function lists
 
@@ -24,11 +23,7 @@ direct_endings f rows = record { each = λ i e h. let w = ends_at f rows i e h i
 
 few_from : (f : ℕ → Row → Option ℤ) (n : ℕ) (rows : List Row) → length (endings_from f n rows) ≤ length rows
 few_from f n [] = omega arith
-few_from f n (row ∷ rows) = let e = ap length (endings_step f n row rows) in let l = few_from f (n + 1) rows in let m = one_more (paired n (result_of f n row)) (endings_from f (n + 1) rows) in omega (arith, e, l, m)
-  where
-    one_more : (o : Option Ending) (es : List Ending) → length (cons_option o es) ≤ length es + 1
-    one_more None es = omega arith
-    one_more (Some e) es = omega arith
+few_from f n (row ∷ rows) = grind (arith, few_from f (n + 1) rows)
 
 pub few_endings : (f : ℕ → Row → Option ℤ) (rows : List Row) → length (endings f rows) ≤ length rows
 few_endings f rows = few_from f 0 rows
@@ -39,19 +34,13 @@ upto_all f rows k h = sym (upto_gap f rows k (length rows) (λ r row l m e. h r 
 
 -- The results may be taken from the list or from the function that made it.
 pub joined_listed : (f : ℕ → Row → Option ℤ) (rows : List Row) (es : List Ending) → joined rows (λ r row. result_in (endings f rows) r) es ≡ joined rows f es
-joined_listed f rows es = alike (λ r row. or_else (result_in es r) (result_in (endings f rows) r)) (λ r row. or_else (result_in es r) (f r row)) rows (λ r row h. by r row h (is_unfinished row.phase) refl)
-  where
-    by : (r : ℕ) (row : Row) → slice_get rows r ≡ Some row → (b : Bool) → is_unfinished row.phase ≡ b → cond b (or_else (result_in es r) (result_in (endings f rows) r)) None ≡ cond b (or_else (result_in es r) (f r row)) None
-    by r row h true u = ap (or_else (result_in es r)) (listed_row f rows r row h u)
-    by r row h false u = refl
+joined_listed = grind (arith, alike, listed_row)
 
 or_else_same : (o : Option ℤ) → or_else o None ≡ o
-or_else_same None = refl
-or_else_same (Some x) = refl
+or_else_same = grind arith
 
 pub nothing_in : (es : List Ending) → (length es == 0) ≡ true → es ≡ []
-nothing_in [] h = refl
-nothing_in (e ∷ es) h = absurd (let k = eqb-true (length (e ∷ es)) 0 h in omega (arith, k))
+nothing_in = grind (arith, common_steps)
 
 -- A list joined with an empty one is unchanged.
 pub joined_none : (f : ℕ → Row → Option ℤ) (rows : List Row) → joined rows (λ r row. result_in [] r) (endings f rows) ≡ endings f rows
@@ -65,12 +54,7 @@ joined_none f rows = alike (λ r row. or_else (result_in (endings f rows) r) Non
 
 -- A lower bound for one completion's row holds for all later ones.
 later_rows : (es : List Ending) (i n : ℕ) → Rises es → ((e : Ending) → slice_get es i ≡ Some e → n ≤ e.0) → (j : ℕ) (e : Ending) → slice_get es j ≡ Some e → i ≤ j → n ≤ e.0
-later_rows es i n rises low j e h l = by (slice_get es i) refl (split i j)
-  where
-    by : (o : Option Ending) → slice_get es i ≡ o → (i < j) ⊎ (j ≤ i) → n ≤ e.0
-    by o g (inr a) = let m : i ≡ j = omega (arith, a, l) in low e (ap (slice_get es) m ∙ h)
-    by None g (inl a) = let b = slice_get_within es j e h in absurd (none_within es i g (omega (arith, a, b)))
-    by (Some p) g (inl a) = let x = low p g in let y = rises i j p e g h a in omega (arith, x, y)
+later_rows = grind (arith, split, slice_get_within, none_within)
 
 -- The split remains correct for a larger row number, up to the next completion's.
 pub splits_to : (es : List Ending) (k i n : ℕ) → Rises es → Splits es k i → k ≤ n → ((e : Ending) → slice_get es i ≡ Some e → n ≤ e.0) → Splits es n i
@@ -78,11 +62,7 @@ splits_to es k i n rises s l low = record { below = λ j e h m. let x = s.below 
 
 -- If an index splits a list at two row numbers, no row between them is listed.
 pub splits_out : (es : List Ending) (k n i r : ℕ) → Splits es k i → Splits es n i → k ≤ r → r < n → result_in es r ≡ None
-splits_out es k n i r s t l m = undirected es r (λ j e h same. by j e h same (split j i))
-  where
-    by : (j : ℕ) (e : Ending) → slice_get es j ≡ Some e → e.0 ≡ r → (j < i) ⊎ (i ≤ j) → ⊥
-    by j e h same (inl a) = let x = s.below j e h a in omega (arith, x, same, l)
-    by j e h same (inr a) = let x = t.above j e h a in omega (arith, x, same, m)
+splits_out = grind (arith, undirected)
 
 -- If the index is past the end of the list, no row from k on is listed.
 pub splits_past : (es : List Ending) (k i r : ℕ) → Splits es k i → length es ≤ i → k ≤ r → result_in es r ≡ None

@@ -1,14 +1,14 @@
 -- Finding matches, one by one.
-use Rattle.std.proofs.Common.{◌≡◌, ℕ, Bool, true, false, not, cond, refl, sym, ◌∙◌, ap, List, [], ◌∷◌, ◌++◌, take, ◌+◌, ◌<◌, ◌≤◌, ◌⊎◌, inl, inr, arith}
+use Rattle.std.proofs.Common.{◌≡◌, ℕ, Bool, true, false, not, cond, refl, sym, ◌∙◌, ap, List, [], ◌∷◌, ◌++◌, take, ◌+◌, arith}
 use Rattle.std.specs.Prelude.{Some, map, option_map, slice_get, length, ◌&&◌}
 use Rattle.std.specs.List.{filter, enumerate_from}
-use Rattle.std.proofs.lemmas.Bool.{and_left, cases_lt}
+use Rattle.std.proofs.lemmas.Bool.{and_left}
 use Rattle.std.proofs.lemmas.List.{length-append, map-append}
 use Rattle.std.proofs.lemmas.List.Elements.{filter-append}
 use Rattle.entries.specs.declared.row.Row.{Row}
 use Rattle.model_files.specs.Worlds.{WorldState}
 use Rattle.opcodes.specs.Outcomes.{is_running}
-use Rattle.links_drains.specs.Units.{IsNextIssued, NoneIssuedFrom}
+use Rattle.links_drains.specs.Units.{IsNextIssued}
 use Rattle.links_drains.proofs.Batching.{take_more}
 use Rattle.links_drains.proofs.Chains.{enumerated}
 use Rattle.links_drains.proofs.Filters.{filter_skip, first_numbered, none_numbered}
@@ -31,37 +31,7 @@ passed_none rows key me from = record { after = omega arith; none = λ i x low h
 
 -- The next issued request doesn't match.
 pub passed_on : (rows : List Row) (key : Key) (me from at r : ℕ) (row : Row) → Passed rows key me from at → IsNextIssued rows at r → slice_get rows r ≡ Some row → matches key me (r, row) ≡ false → Passed rows key me from (r + 1)
-passed_on rows key me from at r row p next h fails = record {
-  after = let a = p.after in let b = next.after in omega (arith, a, b);
-  none = λ i x low high g. by i x low high g (cases_lt i at) (cases_lt i r);
-}
-  where
-    by : (i : ℕ) (x : Row) → from ≤ i → i < r + 1 → slice_get rows i ≡ Some x → (i < at) ⊎ (at ≤ i) → (i < r) ⊎ (r ≤ i) → matches key me (i, x) ≡ false
-    by i x low high g (inl less) s = p.none i x low less g
-    by i x low high g (inr le) (inl less) = and_left _ _ (next.least i x le less g)
-    by i x low high g (inr le) (inr last) = let e : r ≡ i = omega (arith, high, last) in let k : Some row ≡ Some x = sym h ∙ ap (slice_get rows) e ∙ g in same k e
-      where
-        same : Some row ≡ Some x → r ≡ i → matches key me (i, x) ≡ false
-        same k e = let y : row ≡ x = cc in ap (λ n. matches key me (n, x)) (sym e) ∙ ap (λ z. matches key me (r, z)) (sym y) ∙ fails
-
-pub match_found : (rows : List Row) (key : Key) (me from at r : ℕ) (row : Row) → Passed rows key me from at → IsNextIssued rows at r → slice_get rows r ≡ Some row → matches key me (r, row) ≡ true → IsNextMatch rows key me from r row
-match_found rows key me from at r row p next h yes_match = record {
-  after = let a = p.after in let b = next.after in omega (arith, a, b);
-  there = h;
-  matching = yes_match;
-  least = λ i x low high g. by i x low high g (cases_lt i at);
-}
-  where
-    by : (i : ℕ) (x : Row) → from ≤ i → i < r → slice_get rows i ≡ Some x → (i < at) ⊎ (at ≤ i) → matches key me (i, x) ≡ false
-    by i x low high g (inl less) = p.none i x low less g
-    by i x low high g (inr le) = and_left _ _ (next.least i x le high g)
-
-pub match_none : (rows : List Row) (key : Key) (me from at : ℕ) → Passed rows key me from at → NoneIssuedFrom rows at → NoMatchFrom rows key me from
-match_none rows key me from at p none i x low g = by (cases_lt i at)
-  where
-    by : (i < at) ⊎ (at ≤ i) → matches key me (i, x) ≡ false
-    by (inl less) = p.none i x low less g
-    by (inr le) = and_left _ _ (none i x le g)
+passed_on = grind arith
 
 -- ---- The first match
 

@@ -1,18 +1,14 @@
 -- Finding the TIMEOUTs whose count is reached, one by one.
-use Rattle.std.proofs.Common.{◌≡◌, ℕ, ℤ, pos, Bool, true, false, cond, refl, sym, ◌∙◌, ap, List, [], ◌∷◌, ◌++◌, ◌+◌, ◌-◌, arith}
-use Rattle.std.specs.Prelude.{Option, Some, None, ◌==◌, ◌&&◌, nat_lt, nat_le}
-use Rattle.entries.specs.declared.row.Phase.{Phase}
-use Rattle.entries.specs.declared.row.Phase.TheVariants.{Queued, Issued, Ended}
+use Rattle.std.proofs.Common.{◌≡◌, ℕ, ℤ, pos, true, false, sym, ◌∙◌, ap, List, [], ◌∷◌, ◌++◌, ◌+◌, ◌-◌, arith}
+use Rattle.std.specs.Prelude.{Option, Some, None}
 use Rattle.entries.specs.declared.row.Row.{Row}
 use Rattle.links_drains.specs.Endings.{Ending, paired, given}
-use Rattle.links_drains.specs.Phases.{is_unfinished, is_issued}
 use Rattle.links_drains.proofs.Listing.{result_of}
-use Rattle.timeouts_cancel.specs.Cascades.{is_met, is_count_timeout}
+use Rattle.timeouts_cancel.specs.Cascades.{is_met}
 use Rattle.links_drains.specs.Counts.{IsNextMet, NoneMetFrom}
 use Rattle.timeouts_cancel.specs.Timers.{met_rows}
 use Rattle.timeouts_cancel.specs.Walks.{upto}
 use Rattle.timeouts_cancel.proofs.Listed.{upto_all}
-use Rattle.timeouts_cancel.proofs.Severing.{both}
 use Rattle.timeouts_cancel.proofs.Walking.{of_one, upto_more, upto_gap}
 
 -- ---- From one such TIMEOUT to the next
@@ -22,25 +18,10 @@ abbrev pub met_result : ℕ → ℕ → Row → Option ℤ
 met_result total r row = given (is_met total row) (pos 0)
 
 unmet_result : (total r : ℕ) (row : Row) → is_met total row ≡ false → result_of (met_result total) r row ≡ None
-unmet_result total r row h = ap (λ b. cond (is_unfinished row.phase) (given b (pos 0)) None) h ∙ none (is_unfinished row.phase)
-  where
-    nothing : Option ℤ
-    nothing = None
-
-    none : (u : Bool) → cond u nothing None ≡ None
-    none true = refl
-    none false = refl
-
-issued_unfinished : (phase : Phase) → is_issued phase ≡ true → is_unfinished phase ≡ true
-issued_unfinished Queued h = absurd cc
-issued_unfinished Issued h = refl
-issued_unfinished (Ended res) h = absurd cc
+unmet_result = grind arith
 
 its_result : (total r : ℕ) (row : Row) → is_met total row ≡ true → result_of (met_result total) r row ≡ Some (pos 0)
-its_result total r row h =
-    let t = both (is_count_timeout row) (nat_le (row.base + row.entry.off) total) h in
-    let a = both (is_issued row.phase) ((row.entry.opcode == 11) && nat_lt 0 row.entry.off) t.0 in
-    ap (λ u. cond u (given (is_met total row) (pos 0)) None) (issued_unfinished row.phase a.0) ∙ ap (λ b. given b (pos 0)) h
+its_result = grind arith
 
 pub met_next : (rows : List Row) (total from r : ℕ) (es fs : List Ending) → es ≡ upto (met_result total) rows from → IsNextMet rows total from r → fs ≡ es ++ (r, pos 0) ∷ [] → fs ≡ upto (met_result total) rows (r + 1)
 met_next rows total from r es fs h next g =

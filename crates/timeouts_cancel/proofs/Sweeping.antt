@@ -1,6 +1,6 @@
 -- Adding the rest of a chain that was severed.
 use Rattle.std.proofs.Common.{◌≡◌, ℕ, zero, suc, true, cond, refl, sym, ◌∙◌, ap, List, [], ◌∷◌, ◌++◌, length, ◌+◌, ◌<◌, ◌≤◌, ◌⊎◌, inl, inr, arith}
-use Rattle.std.specs.Prelude.{Option, Some, None, slice_get}
+use Rattle.std.specs.Prelude.{Some, None, slice_get}
 use Rattle.std.proofs.lemmas.List.{take_all}
 use Rattle.std.proofs.lemmas.Option.{slice_get_within}
 use Rattle.entries.specs.declared.row.Row.{Row}
@@ -43,11 +43,7 @@ sweep_start rows direct k i es e row d w h t s b = record {
 
 -- One more row of the chain.
 run_more : (rows : List Row) (from k unit : ℕ) (row : Row) → slice_get rows k ≡ Some row → row.unit ≡ unit → ((q : ℕ) (y : Row) → from ≤ q → q < k → slice_get rows q ≡ Some y → y.unit ≡ unit) → (q : ℕ) (y : Row) → from ≤ q → q < k + 1 → slice_get rows q ≡ Some y → y.unit ≡ unit
-run_more rows from k unit row h u run q y l m g = by (split q k)
-  where
-    by : (q < k) ⊎ (k ≤ q) → y.unit ≡ unit
-    by (inl a) = run q y l a g
-    by (inr a) = let n : q ≡ k = omega (arith, a, m) in ap (λ (x : Row). x.unit) (same_row y row (sym g ∙ ap (slice_get rows) n ∙ h)) ∙ u
+run_more = grind arith
 
 pub sweep_direct : (rows : List Row) (direct : List Ending) (k i : ℕ) (es : List Ending) (unit : ℕ) (e : Ending) (row : Row) → Direct rows direct → Sweeping rows direct k i es unit → slice_get direct i ≡ Some e → e.0 ≡ k → slice_get rows k ≡ Some row → row.unit ≡ unit
     → Sweeping rows direct (k + 1) (i + 1) (es ++ e ∷ []) unit
@@ -77,18 +73,10 @@ sweep_direct rows direct k i es unit e row d w h m t u =
 
 -- A row of the chain that is no direct completion.
 above_other : (direct : List Ending) (k i : ℕ) → ((j : ℕ) (e : Ending) → slice_get direct j ≡ Some e → i ≤ j → k ≤ e.0) → ((j : ℕ) (e : Ending) → slice_get direct j ≡ Some e → i ≤ j → e.0 ≡ k → ⊥) → (j : ℕ) (e : Ending) → slice_get direct j ≡ Some e → i ≤ j → k + 1 ≤ e.0
-above_other direct k i above other j e h l = let a = above j e h l in by (split k e.0) a
-  where
-    by : (k < e.0) ⊎ (e.0 ≤ k) → k ≤ e.0 → k + 1 ≤ e.0
-    by (inl b) a = omega (arith, b)
-    by (inr b) a = absurd (other j e h l (omega (arith, a, b)))
+above_other = grind arith
 
 not_direct : (rows : List Row) (direct : List Ending) (k i : ℕ) (es : List Ending) (unit : ℕ) → Sweeping rows direct k i es unit → ((j : ℕ) (e : Ending) → slice_get direct j ≡ Some e → i ≤ j → e.0 ≡ k → ⊥) → NotDirect direct k
-not_direct rows direct k i es unit w other j e h m = by (split j i)
-  where
-    by : (j < i) ⊎ (i ≤ j) → ⊥
-    by (inl a) = let x = w.below j e h a in absurd (omega (arith, x, m))
-    by (inr a) = other j e h a m
+not_direct = grind arith
 
 pub sweep_other : (rows : List Row) (direct : List Ending) (k i : ℕ) (es fs : List Ending) (unit : ℕ) (row : Row) → Direct rows direct → Sweeping rows direct k i es unit → ((j : ℕ) (e : Ending) → slice_get direct j ≡ Some e → i ≤ j → e.0 ≡ k → ⊥)
     → slice_get rows k ≡ Some row → row.unit ≡ unit → fs ≡ es ++ of_one (paired k (cond (is_unfinished row.phase) (Some ecanceled) None)) → Sweeping rows direct (k + 1) i fs unit
@@ -116,41 +104,11 @@ sweep_other rows direct k i es fs unit row d w other t u f =
 
 -- If the next direct completion isn't for row k, no later one is.
 pub others_later : (rows : List Row) (direct : List Ending) (k i : ℕ) → Direct rows direct → ((j : ℕ) (e : Ending) → slice_get direct j ≡ Some e → i ≤ j → k ≤ e.0) → ((e : Ending) → slice_get direct i ≡ Some e → e.0 ≡ k → ⊥) → (j : ℕ) (e : Ending) → slice_get direct j ≡ Some e → i ≤ j → e.0 ≡ k → ⊥
-others_later rows direct k i d above none j e h l m = by (slice_get direct i) refl (split i j)
-  where
-    by : (o : Option Ending) → slice_get direct i ≡ o → (i < j) ⊎ (j ≤ i) → ⊥
-    by o q (inr a) = let n : j ≡ i = omega (arith, a, l) in none e (ap (slice_get direct) (sym n) ∙ h) m
-    by None q (inl a) = let b = slice_get_within direct j e h in none_within direct i q (omega (arith, a, b))
-    by (Some p) q (inl a) = let x = d.rising i j p e q h a in let y = above i p q (omega arith) in omega (arith, x, y, m)
+others_later = grind (arith, split, slice_get_within, none_within)
 
 -- At the end of the chain, or of the table, nothing more is severed.
 pub sweep_end : (rows : List Row) (direct : List Ending) (k i : ℕ) (es : List Ending) (unit : ℕ) → Chained rows → Direct rows direct → Sweeping rows direct k i es unit → ((row : Row) → slice_get rows k ≡ Some row → row.unit ≡ unit → ⊥) → Walked rows direct k i es
-sweep_end rows direct k i es unit c d w stop = record {
-  listed = w.listed;
-  below = w.below;
-  above = w.above;
-  clear = λ r x j p l g q a s. by r x j p l g q a s (split j w.at);
-}
-  where
-    -- The row at k belongs to the same chain as a later row that is severed by a row before k.
-    here : (r : ℕ) (x : Row) (p : Ending) → k ≤ r → slice_get rows r ≡ Some x → p.0 < k → Severs rows r x p → (o : Option Row) → slice_get rows k ≡ o → (y : Row) × (slice_get rows k ≡ Some y) × (y.unit ≡ x.unit)
-    here r x p l g a s None e = absurd (let b = slice_get_within rows r x g in none_within rows k e (omega (arith, l, b)))
-    here r x p l g a s (Some y) e =
-        let low = c.back p.0 s.before s.there in
-        let n : x.unit ≤ k = let u = s.unit in omega (arith, low, a, u) in
-        (y, e, c.run k r y x e g l n)
-
-    by : (r : ℕ) (x : Row) (j : ℕ) (p : Ending) → k ≤ r → slice_get rows r ≡ Some x → slice_get direct j ≡ Some p → j < i → Severs rows r x p → (j < w.at) ⊎ (w.at ≤ j) → ⊥
-    by r x j p l g q a s (inl b) = w.clear r x j p (let low = w.below w.at w.cause w.there w.passed in omega (arith, l, low)) g q b s
-    by r x j p l g q a s (inr b) =
-        let lower = w.below j p q a in
-        let y = here r x p l g lower s (slice_get rows k) refl in
-        let u = w.run p.0 s.before (high j p q b (split w.at j)) lower s.there in
-        stop y.0 y.1 (y.2 ∙ sym s.unit ∙ u)
-      where
-        high : (j : ℕ) (p : Ending) → slice_get direct j ≡ Some p → w.at ≤ j → (w.at < j) ⊎ (j ≤ w.at) → w.cause.0 ≤ p.0
-        high j p q b (inl a) = let z = d.rising w.at j w.cause p w.there q a in omega (arith, z)
-        high j p q b (inr a) = let n : j ≡ w.at = omega (arith, a, b) in let z = ap (λ (e : Ending). e.0) (same_ending p w.cause (sym q ∙ ap (slice_get direct) n ∙ w.there)) in omega (arith, z)
+sweep_end = grind (arith, split, slice_get_within, none_within, same_ending)
 
 -- ---- The end of the pass
 

@@ -1,17 +1,16 @@
 -- How many listed completions count for TIMEOUTs.
 use Rattle.std.proofs.Common.{◌≡◌, ℕ, ℤ, zero, suc, Bool, true, false, cond, refl, sym, ◌∙◌, ap, subst, List, [], ◌∷◌, length, ◌+◌, ◌≤◌, arith}
-use Rattle.std.specs.Prelude.{Option, Some, None, slice_get, is_some, ◌==◌, ◌&&◌, nat_lt, nat_le}
+use Rattle.std.specs.Prelude.{Option, Some, None, slice_get, is_some, ◌&&◌}
 use Rattle.std.specs.Option.{option_map_or}
 use Rattle.std.specs.List.{filter, cons_option}
 use Rattle.std.proofs.lemmas.Bool.{eqb-true}
 use Rattle.entries.specs.declared.row.Row.{Row}
-use Rattle.links_drains.specs.Phases.{is_unfinished, is_issued, counts}
+use Rattle.links_drains.specs.Phases.{is_unfinished, counts}
 use Rattle.links_drains.specs.Endings.{Ending, result_in, paired, endings, or_else, given, endings_from}
 use Rattle.links_drains.specs.Links.{is_guard}
-use Rattle.timeouts_cancel.specs.Cascades.{is_count_timeout, is_met, counted_in}
+use Rattle.timeouts_cancel.specs.Cascades.{is_met, counted_in}
 use Rattle.links_drains.proofs.Listing.{endings_step, result_of}
 use Rattle.timeouts_cancel.proofs.Again.{listed_row}
-use Rattle.timeouts_cancel.proofs.Severing.{both}
 
 -- How many rows, numbered from n, count and have a result.
 abbrev pub tally : (ℕ → Row → Option ℤ) → ℕ → List Row → ℕ
@@ -70,39 +69,24 @@ counted_alike f g rows h = tallied look f 0 rows at ∙ tally_alike f g 0 rows b
 
 pub few_counted : (rows : List Row) (es : List Ending) → counted_in rows es ≤ length es
 few_counted rows [] = omega arith
-few_counted rows (e ∷ es) = let l = few_counted rows es in by (option_map_or counts (slice_get rows e.0) false) (filter (λ (x : Ending). option_map_or counts (slice_get rows x.0) false) es) l
-  where
-    by : (b : Bool) (xs : List Ending) → length xs ≤ length es → length (cond b (e ∷ xs) xs) ≤ length (e ∷ es)
-    by true xs l = omega (arith, l)
-    by false xs l = omega (arith, l)
+few_counted rows (e ∷ es) = grind (arith, few_counted rows es)
 
 -- ---- What doesn't count
-
-timer_counts : (row : Row) (n : ℕ) → row.entry.opcode ≡ n → (n ≡ 11) → counts row ≡ false
-timer_counts row n e k = rw (e ∙ k) refl
 
 pub guard_counts : (row : Row) → is_guard row ≡ true → counts row ≡ false
 guard_counts row h = let o : row.entry.opcode ≡ 15 = eqb-true row.entry.opcode 15 h in rw o refl
 
 pub met_counts : (total : ℕ) (row : Row) → is_met total row ≡ true → counts row ≡ false
-met_counts total row h =
-    let t = both (is_count_timeout row) (nat_le (row.base + row.entry.off) total) h in
-    let a = both (is_issued row.phase) ((row.entry.opcode == 11) && nat_lt 0 row.entry.off) t.0 in
-    let b = both (row.entry.opcode == 11) (nat_lt 0 row.entry.off) a.1 in
-    timer_counts row 11 (eqb-true row.entry.opcode 11 b.0) refl
+met_counts = grind arith
 
 -- A result for a row that doesn't count doesn't change whether a counted row is listed.
 same_listed : (o : Option ℤ) (b : Bool) (res : ℤ) → b ≡ false → is_some (or_else o (given b res)) ≡ is_some o
-same_listed None false res h = refl
-same_listed None true res h = absurd cc
-same_listed (Some x) b res h = refl
+same_listed = grind arith
 
 not_both : (a b : Bool) → (a ≡ true → b ≡ false) → b ≡ true → a ≡ false
-not_both true b h k = absurd (let e = h refl in cc)
-not_both false b h k = refl
+not_both = grind arith
 
 -- The TIMEOUTs and linked timeouts that a rule adds don't count.
 pub joined_counts : (rows : List Row) (g : ℕ → Row → Option ℤ) (test : ℕ → Row → Bool) (res : ℤ) → ((r : ℕ) (row : Row) → test r row ≡ true → counts row ≡ false)
     → counted_in rows (endings (λ r row. or_else (result_in (endings g rows) r) (given (test r row) res)) rows) ≡ counted_in rows (endings g rows)
-joined_counts rows g test res h = counted_alike (λ r row. or_else (result_in (endings g rows) r) (given (test r row) res)) g rows (λ r row e u c.
-    same_listed (result_in (endings g rows) r) (test r row) res (not_both (test r row) (counts row) (h r row) c) ∙ ap is_some (listed_row g rows r row e u))
+joined_counts = grind (arith, counted_alike, same_listed, not_both, listed_row)

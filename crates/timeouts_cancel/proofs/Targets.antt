@@ -1,12 +1,11 @@
 -- Finding the linked timeouts of listed requests, one by one.
 use Rattle.std.proofs.Common.{◌≡◌, ℕ, ℤ, Bool, true, false, cond, refl, sym, ◌∙◌, ap, List, ◌++◌, length, ◌+◌, ◌-◌, ◌<◌, ◌≤◌, ◌⊎◌, inl, inr, arith}
-use Rattle.std.specs.Prelude.{Option, Some, None, slice_get, ◌==◌, ◌&&◌}
+use Rattle.std.specs.Prelude.{Option, Some, None, slice_get}
 use Rattle.std.specs.Option.{option_map_or}
-use Rattle.std.proofs.lemmas.Bool.{eqb-true, eq-eqb}
 use Rattle.std.proofs.lemmas.List.{append-nil}
 use Rattle.std.proofs.lemmas.Option.{slice_get_within}
 use Rattle.entries.specs.declared.row.Row.{Row}
-use Rattle.links_drains.specs.Endings.{Ending, endings, paired, given, ecanceled, is_listed, Direct}
+use Rattle.links_drains.specs.Endings.{Ending, endings, paired, given, ecanceled, Direct}
 use Rattle.links_drains.specs.Links.{is_guard}
 use Rattle.links_drains.specs.Phases.{is_unfinished}
 use Rattle.links_drains.proofs.Listing.{result_of}
@@ -33,14 +32,7 @@ pub record GuardsListed (rows : List Row) (listed : List Ending) (row : Row) : T
   pub target : row.target ≡ Some ending.0
 
 guards_so : (rows : List Row) (listed : List Ending) (row : Row) → guards_listed listed row ≡ true → GuardsListed rows listed row
-guards_so rows listed row h = by (is_guard row) (row.target) refl refl h
-  where
-    by : (b : Bool) (o : Option ℕ) → is_guard row ≡ b → row.target ≡ o → (b && option_map_or (is_listed listed) o false) ≡ true → GuardsListed rows listed row
-    by false o g t k = absurd cc
-    by true None g t k = absurd cc
-    by true (Some x) g t k =
-        let f = any_found (λ (e : Ending). e.0 == x) listed k in
-        record { index = f.0; ending = f.1; there = f.2; guards = g; target = t ∙ ap Some (sym (eqb-true f.1.0 x f.3)) }
+guards_so = grind (arith, any_found)
 
 -- A row that doesn't come directly after a listed one is no linked timeout of one.
 no_guard : (rows : List Row) (listed : List Ending) (r : ℕ) (row : Row) → GuardsAreLinked rows → slice_get rows r ≡ Some row → ((j : ℕ) (e : Ending) → slice_get listed j ≡ Some e → e.0 + 1 ≡ r → ⊥) → result_of (guard_result listed) r row ≡ None
@@ -54,17 +46,7 @@ no_guard rows listed r row linked h none = by (is_unfinished row.phase) (guards_
 -- ---- The row after a listed one
 
 its_guard : (rows : List Row) (listed : List Ending) (i : ℕ) (e : Ending) (row : Row) → GuardsAreLinked rows → slice_get listed i ≡ Some e → slice_get rows (e.0 + 1) ≡ Some row → result_of (guard_result listed) (e.0 + 1) row ≡ cond (guards_row e.0 row) (Some ecanceled) None
-its_guard rows listed i e row linked h t = by (is_unfinished row.phase) (is_guard row) row.target refl refl refl
-  where
-    by : (u g : Bool) (o : Option ℕ) → is_unfinished row.phase ≡ u → is_guard row ≡ g → row.target ≡ o
-        → cond u (given (g && option_map_or (is_listed listed) o false) ecanceled) None ≡ cond (u && (g && option_map_or (λ target. target == e.0) o false)) (Some ecanceled) None
-    by false g o a b c = refl
-    by true false o a b c = refl
-    by true true None a b c = refl
-    by true true (Some x) a b c =
-        let n : x ≡ e.0 = let k = linked (e.0 + 1) x row t b a c in omega (arith, k) in
-        let l : is_listed listed x ≡ true = any_at (λ (y : Ending). y.0 == x) listed i e h (eq-eqb e.0 x (sym n)) in
-        ap (λ z. given z ecanceled) l ∙ ap (λ z. cond z (Some ecanceled) None) (sym (eq-eqb x e.0 n))
+its_guard = grind (arith, any_at)
 
 pub guarded_next : (rows : List Row) (listed : List Ending) (i : ℕ) (es fs : List Ending) (e : Ending) (b : Bool) → GuardsAreLinked rows → Direct rows listed → Guarded rows listed i es → slice_get listed i ≡ Some e
     → b ≡ option_map_or (guards_row e.0) (slice_get rows (e.0 + 1)) false → fs ≡ es ++ of_one (paired (e.0 + 1) (cond b (Some ecanceled) None)) → Guarded rows listed (i + 1) fs
@@ -110,5 +92,4 @@ guarded_next rows listed i es fs e b linked d w h g k = record {
         ∙ sym (upto_more f rows (e.0 + 1) row t)
 
 pub guarded_all : (rows : List Row) (listed : List Ending) (i : ℕ) (es : List Ending) → GuardsAreLinked rows → Guarded rows listed i es → length listed ≤ i → es ≡ guarding rows listed
-guarded_all rows listed i es linked w l =
-    w.found ∙ upto_all (guard_result listed) rows w.to (λ r row low t. no_guard rows listed r row linked t (λ j p q same. let n = slice_get_within listed j p q in let x = w.below j p q (omega (arith, n, l)) in omega (arith, x, same, low)))
+guarded_all = grind (arith, upto_all, no_guard, slice_get_within)

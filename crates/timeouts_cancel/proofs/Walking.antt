@@ -1,16 +1,15 @@
 -- Processing the direct completions, and the requests that they sever, in one pass.
 use Rattle.std.proofs.Common.{◌≡◌, ℕ, ℤ, zero, suc, Bool, true, false, cond, refl, sym, ◌∙◌, ap, subst, List, [], ◌∷◌, ◌++◌, take, ◌+◌, ◌-◌, ◌<◌, ◌≤◌, ◌⊎◌, inl, inr, arith}
-use Rattle.std.specs.Prelude.{Option, Some, None, slice_get, ◌==◌, ◌&&◌, nat_lt}
+use Rattle.std.specs.Prelude.{Option, Some, None, slice_get, ◌==◌, ◌&&◌}
 use Rattle.std.specs.List.{cons_option}
-use Rattle.std.proofs.lemmas.Bool.{eqb-true, eq-eqb}
-use Rattle.std.proofs.lemmas.Bool.Decides.{nat_tests}
+use Rattle.std.proofs.lemmas.Bool.{eqb-true}
 use Rattle.std.proofs.lemmas.List.{append-nil}
 use Rattle.entries.specs.declared.row.Row.{Row}
 use Rattle.links_drains.specs.Links.{is_soft_linked}
 use Rattle.links_drains.specs.Phases.{is_unfinished}
-use Rattle.links_drains.specs.Endings.{Ending, result_in, paired, endings, or_else, given, ecanceled, Direct, endings_from}
-use Rattle.timeouts_cancel.specs.Cascades.{is_severed, is_bad, severs_by}
-use Rattle.links_drains.proofs.Listing.{endings_step, result_of}
+use Rattle.links_drains.specs.Endings.{Ending, result_in, paired, endings, given, ecanceled, Direct, endings_from}
+use Rattle.timeouts_cancel.specs.Cascades.{is_severed, is_bad}
+use Rattle.links_drains.proofs.Listing.{result_of}
 use Rattle.links_drains.proofs.Rising.{ends_at}
 use Rattle.timeouts_cancel.proofs.Again.{any_found, result_there, listed_row}
 use Rattle.timeouts_cancel.specs.Walks.{Severs, Walked, own_endings, result_by, upto}
@@ -22,33 +21,10 @@ use Rattle.timeouts_cancel.proofs.Severing.{severs_is, severed_by}
 abbrev pub of_one : Option Ending → List Ending
 of_one o = cons_option o []
 
-cons_append : (o : Option Ending) (xs ys : List Ending) → cons_option o xs ++ ys ≡ cons_option o (xs ++ ys)
-cons_append None xs ys = refl
-cons_append (Some e) xs ys = refl
-
 more_from : (f : ℕ → Row → Option ℤ) (n : ℕ) (rows : List Row) (k : ℕ) (row : Row) → slice_get rows k ≡ Some row → endings_from f n (take (k + 1) rows) ≡ endings_from f n (take k rows) ++ of_one (paired (n + k) (result_of f (n + k) row))
 more_from f n [] k row h = absurd cc
-more_from f n (x ∷ rows) zero row h =
-    let e : x ≡ row = cc in
-    let m : n ≡ n + zero = omega arith in
-    let one : zero + 1 ≡ suc zero = omega arith in
-    ap (λ i. endings_from f n (take i (x ∷ rows))) one
-    ∙ ap (λ zs. endings_from f n (x ∷ zs)) (none rows)
-    ∙ endings_step f n x []
-    ∙ ap (λ (y : Row). of_one (paired n (result_of f n y))) e
-    ∙ ap (λ i. of_one (paired i (result_of f i row))) m
-  where
-    none : (zs : List Row) → take zero zs ≡ []
-    none [] = refl
-    none (z ∷ zs) = refl
-more_from f n (x ∷ rows) (suc k) row h =
-    let m : n + 1 + k ≡ n + suc k = omega arith in
-    let i : suc k + 1 ≡ suc (k + 1) = omega arith in
-    ap (λ j. endings_from f n (take j (x ∷ rows))) i
-    ∙ endings_step f n x (take (k + 1) rows)
-    ∙ ap (cons_option (paired n (result_of f n x))) (more_from f (n + 1) rows k row h ∙ ap (λ j. endings_from f (n + 1) (take k rows) ++ of_one (paired j (result_of f j row))) m)
-    ∙ sym (cons_append (paired n (result_of f n x)) (endings_from f (n + 1) (take k rows)) (of_one (paired (n + suc k) (result_of f (n + suc k) row))))
-    ∙ ap (λ es. es ++ of_one (paired (n + suc k) (result_of f (n + suc k) row))) (sym (endings_step f n x (take k rows)))
+more_from f n (x ∷ rows) zero row h = grind arith
+more_from f n (x ∷ rows) (suc k) row h = grind (arith, more_from f (n + 1) rows k row h)
 
 pub upto_more : (f : ℕ → Row → Option ℤ) (rows : List Row) (k : ℕ) (row : Row) → slice_get rows k ≡ Some row → upto f rows (k + 1) ≡ upto f rows k ++ of_one (paired k (result_of f k row))
 upto_more f rows k row h = let m : 0 + k ≡ k = omega arith in subst (λ j. upto f rows (k + 1) ≡ upto f rows k ++ of_one (paired j (result_of f j row))) m (more_from f 0 rows k row h)
@@ -77,9 +53,7 @@ upto_gap f rows k (suc d) h =
 
 pub result_at : (es : List Ending) (i : ℕ) (e : Ending) → ((i j : ℕ) (p q : Ending) → slice_get es i ≡ Some p → slice_get es j ≡ Some q → i < j → p.0 < q.0) → slice_get es i ≡ Some e → result_in es e.0 ≡ Some e.1
 result_at [] i e h k = absurd cc
-result_at (x ∷ es) zero e h k =
-    let same : x ≡ e = cc in
-    ap (λ b. cond b (Some x.1) (result_in es e.0)) (eq-eqb x.0 e.0 (ap (λ (y : Ending). y.0) same)) ∙ ap (λ (y : Ending). Some y.1) same
+result_at (x ∷ es) zero e h k = grind arith
 result_at (x ∷ es) (suc i) e h k = by (x.0 == e.0) refl (result_at es i e (λ a b p q c d l. h (suc a) (suc b) p q c d (omega arith)) k)
   where
     by : (b : Bool) → (x.0 == e.0) ≡ b → result_in es e.0 ≡ Some e.1 → cond b (Some x.1) (result_in es e.0) ≡ Some e.1
@@ -88,35 +62,18 @@ result_at (x ∷ es) (suc i) e h k = by (x.0 == e.0) refl (result_at es i e (λ 
 
 -- The result of a direct completion.
 pub test_direct : (rows : List Row) (direct : List Ending) (i : ℕ) (e : Ending) (row : Row) → Direct rows direct → slice_get direct i ≡ Some e → slice_get rows e.0 ≡ Some row → result_of (result_by rows direct) e.0 row ≡ Some e.1
-test_direct rows direct i e row d h t =
-    let w = d.each i e h in
-    let same : w.0 ≡ row = some_same w.0 row (sym w.1 ∙ t) in
-    let u : is_unfinished row.phase ≡ true = subst (λ (x : Row). is_unfinished x.phase ≡ true) same w.2 in
-    let l = listed_row (λ r row. result_in direct r) rows e.0 row t u ∙ result_at direct i e d.rising h in
-    ap (λ b. cond b (result_by rows direct e.0 row) None) u ∙ ap (λ o. or_else o (given (is_severed rows (own_endings rows direct) e.0 row) ecanceled)) l
-  where
-    some_same : (a b : Row) → Some a ≡ Some b → a ≡ b
-    some_same a b k = cc
+test_direct = grind (arith, listed_row, result_at)
 
 -- The row is no direct completion.
 abbrev pub NotDirect : List Ending → ℕ → Type 0
 NotDirect direct r = (j : ℕ) (e : Ending) → slice_get direct j ≡ Some e → e.0 ≡ r → ⊥
 
 pub undirected : (direct : List Ending) (r : ℕ) → NotDirect direct r → result_in direct r ≡ None
-undirected direct r n = by (result_in direct r) refl
-  where
-    by : (o : Option ℤ) → result_in direct r ≡ o → o ≡ None
-    by None e = refl
-    by (Some res) e = absurd (let t = result_there direct r res e in n t.0 (r, res) t.1 refl)
+undirected = grind (arith, result_there)
 
 -- Only a direct completion severs a row.
 pub severed_so : (rows : List Row) (direct : List Ending) (r : ℕ) (row : Row) → is_severed rows (own_endings rows direct) r row ≡ true → (i : ℕ) × (e : Ending) × (slice_get direct i ≡ Some e) × Severs rows r row e
-severed_so rows direct r row h =
-    let f = any_found (λ (x : Ending). severs_by r row (slice_get rows x.0) x) (own_endings rows direct) h in
-    let w = ends_at (λ r row. result_in direct r) rows f.0 f.1 f.2 in
-    let t = result_there direct f.1.0 f.1.1 w.3 in
-    let s = severs_is rows r row f.1 f.3 in
-    (t.0, (f.1.0, f.1.1), t.1, record { before = s.before; there = s.there; less = s.less; unit = s.unit; soft = s.soft; bad = s.bad })
+severed_so = grind (arith, any_found, ends_at, result_there, severs_is)
 
 pub severed_if : (rows : List Row) (direct : List Ending) (r : ℕ) (row : Row) (i : ℕ) (e : Ending) → Direct rows direct → slice_get direct i ≡ Some e → Severs rows r row e → is_severed rows (own_endings rows direct) r row ≡ true
 severed_if rows direct r row i e d h s =
@@ -127,20 +84,12 @@ severed_if rows direct r row i e d h s =
 
 -- The result of a row that is no direct completion.
 pub test_other : (rows : List Row) (direct : List Ending) (r : ℕ) (row : Row) → slice_get rows r ≡ Some row → NotDirect direct r → result_of (result_by rows direct) r row ≡ (cond (is_unfinished row.phase) (given (is_severed rows (own_endings rows direct) r row) ecanceled) None)
-test_other rows direct r row h n = by (is_unfinished row.phase) refl
-  where
-    by : (b : Bool) → is_unfinished row.phase ≡ b → cond b (result_by rows direct r row) None ≡ cond b (given (is_severed rows (own_endings rows direct) r row) ecanceled) None
-    by false u = refl
-    by true u = ap (λ o. or_else o (given (is_severed rows (own_endings rows direct) r row) ecanceled)) (listed_row (λ r row. result_in direct r) rows r row h u ∙ undirected direct r n)
+test_other = grind (arith, listed_row, undirected)
 
 -- ---- The pass
 
 pub split : (j i : ℕ) → (j < i) ⊎ (i ≤ j)
-split j i = by (nat_lt j i) refl
-  where
-    by : (t : Bool) → nat_lt j i ≡ t → (j < i) ⊎ (i ≤ j)
-    by true e = inl (grind (arith, nat_tests))
-    by false e = inr (grind (arith, nat_tests))
+split = grind arith
 
 -- No row between those processed and the next direct completion is listed.
 pub between : (rows : List Row) (direct : List Ending) (k i : ℕ) (es : List Ending) (r : ℕ) (row : Row) → Walked rows direct k i es → k ≤ r → ((j : ℕ) (e : Ending) → slice_get direct j ≡ Some e → i ≤ j → r < e.0) → slice_get rows r ≡ Some row
@@ -183,14 +132,7 @@ listed_direct rows direct k i es e row d w h t =
             first e p g = cc
 
 pub below_next : (rows : List Row) (direct : List Ending) (k i : ℕ) (es : List Ending) (e : Ending) → Direct rows direct → Walked rows direct k i es → slice_get direct i ≡ Some e → (j : ℕ) (p : Ending) → slice_get direct j ≡ Some p → j < i + 1 → p.0 < e.0 + 1
-below_next rows direct k i es e d w h j p g l = by (split j i)
-  where
-    first : (e p : Ending) → Some e ≡ Some p → e.0 ≡ p.0
-    first e p x = cc
-
-    by : (j < i) ⊎ (i ≤ j) → p.0 < e.0 + 1
-    by (inl a) = let x = d.rising j i p e g h a in omega (arith, x)
-    by (inr a) = let same : j ≡ i = omega (arith, a, l) in let x = first p e (sym g ∙ ap (slice_get direct) same ∙ h) in omega (arith, x)
+below_next = grind arith
 
 pub above_next : (rows : List Row) (direct : List Ending) (i : ℕ) (e : Ending) → Direct rows direct → slice_get direct i ≡ Some e → (j : ℕ) (p : Ending) → slice_get direct j ≡ Some p → i + 1 ≤ j → e.0 + 1 ≤ p.0
 above_next rows direct i e d h j p g l = let x = d.rising i j e p h g (omega (arith, l)) in omega (arith, x)

@@ -1,6 +1,6 @@
 -- The cascade is complete: applying its rules again adds nothing.
-use Rattle.std.proofs.Common.{◌≡◌, ℕ, ℤ, pos, Bool, true, false, refl, sym, ◌∙◌, ap, subst, List, [], ◌∷◌, ◌+◌, ◌<◌}
-use Rattle.std.specs.Prelude.{Option, Some, None, slice_get, ◌==◌, ◌&&◌, ◌||◌, nat_le, if◌then◌else◌}
+use Rattle.std.proofs.Common.{◌≡◌, ℕ, ℤ, pos, Bool, true, false, refl, sym, ◌∙◌, ap, subst, List, [], ◌∷◌, ◌+◌, ◌<◌, arith}
+use Rattle.std.specs.Prelude.{Option, Some, None, slice_get, ◌&&◌, nat_le}
 use Rattle.std.specs.Option.{option_map_or}
 use Rattle.std.proofs.lemmas.Bool.{eqb-true, eq-eqb}
 use Rattle.entries.specs.declared.row.Row.{Row}
@@ -58,12 +58,7 @@ unlisted rows c direct r row h u n =
 
 unlisted_none : (es : List Ending) (r : ℕ) → is_listed es r ≡ false → result_in es r ≡ None
 unlisted_none [] r h = refl
-unlisted_none (e ∷ es) r h = by (e.0 == r) (is_listed es r) refl h (unlisted_none es r)
-  where
-    by : (a b : Bool) → is_listed es r ≡ b → (a || b) ≡ false → (is_listed es r ≡ false → result_in es r ≡ None) → (if a then Some e.1 else result_in es r) ≡ None
-    by true b k g more = absurd cc
-    by false true k g more = absurd cc
-    by false false k g more = more k
+unlisted_none (e ∷ es) r h = grind (arith, unlisted_none es r)
 
 -- If a linked timeout doesn't complete in the cascade, neither does its target.
 pub target_stays : (rows : List Row) (c : ℕ) (direct : List Ending) (r t : ℕ) (row target : Row) → slice_get rows r ≡ Some row → is_unfinished row.phase ≡ true → is_guard row ≡ true → row.target ≡ Some t
@@ -162,20 +157,7 @@ met_again rows c direct =
 
 -- A listed row that is no linked timeout was listed before the fourth rule.
 listed_before : (rows : List Row) (c : ℕ) (direct : List Ending) (t : ℕ) → ((target : Row) → slice_get rows t ≡ Some target → is_guard target ≡ false) → is_listed (fall_of rows c direct) t ≡ true → is_listed (ms rows c direct) t ≡ true
-listed_before rows c direct t g h =
-    let f = any_found (λ (e : Ending). e.0 == t) (fall_of rows c direct) h in
-    let same : f.1.0 ≡ t = eqb-true f.1.0 t f.3 in
-    let w = ends_at (λ r row. or_else (result_in (ms rows c direct) r) (given (guards_listed (ms rows c direct) row) ecanceled)) rows f.0 f.1 f.2 in
-    let there : slice_get rows t ≡ Some w.0 = ap (slice_get rows) (sym same) ∙ w.1 in
-    let gives : or_else (result_in (ms rows c direct) t) (given (guards_listed (ms rows c direct) w.0) ecanceled) ≡ Some f.1.1 = subst (λ r. or_else (result_in (ms rows c direct) r) (given (guards_listed (ms rows c direct) w.0) ecanceled) ≡ Some f.1.1) same w.3 in
-    by w.0 f.1.1 there (result_in (ms rows c direct) t) refl gives
-  where
-    by : (row : Row) (res : ℤ) → slice_get rows t ≡ Some row → (o : Option ℤ) → result_in (ms rows c direct) t ≡ o → or_else o (given (guards_listed (ms rows c direct) row) ecanceled) ≡ Some res → is_listed (ms rows c direct) t ≡ true
-    by row res there (Some x) e k = let s = result_there (ms rows c direct) t x e in any_at (λ (e : Ending). e.0 == t) (ms rows c direct) s.0 (t, x) s.1 (eq-eqb t t refl)
-    by row res there None e k =
-        let y = given_is (guards_listed (ms rows c direct) row) ecanceled res k in
-        let z = both (is_guard row) (option_map_or (is_listed (ms rows c direct)) row.target false) y.0 in
-        absurd (true_false (is_guard row) z.0 (g row there))
+listed_before = grind (arith, any_found, eqb-true, ends_at, result_there, any_at, eq-eqb, given_is, both, true_false)
 
 pub guards_again : (rows : List Row) (c : ℕ) (direct : List Ending) → GuardsFormed rows → with_guards rows (fall_of rows c direct) ≡ fall_of rows c direct
 guards_again rows c direct formed =

@@ -79,6 +79,7 @@ fn end_one(
 
 // Adds the rest of a chain, from request `from` on. Returns the index of the next direct
 // completion.
+#[tactic(auto, using(crate::proofs::Sweeping::sweep_end, std::proofs::lemmas::Option::slice_get_within))]
 fn sever(
     table: &Table,
     direct: &[(u32, i32)],

@@ -45,6 +45,7 @@ pub fn find(table: &Table, world: &World, addr: u64, me: u32) -> Found
 
 /// Returns the first issued request that matches, except LINK_TIMEOUTs and the request `me` that
 /// searches. Doesn't allocate.
+#[tactic(auto, using(crate::proofs::MatchByMatch::found_next, crate::proofs::MatchByMatch::found_none))]
 pub fn find_by(table: &Table, world: &World, key: Key, me: u32) -> Found
     ensures { result ≡ found_by table.now world.now key me }
 {
@@ -56,6 +57,7 @@ pub fn find_by(table: &Table, world: &World, key: Key, me: u32) -> Found
 
 /// Returns all issued requests that match and are waiting, by ascending number, except
 /// LINK_TIMEOUTs and the request `me` that searches.
+#[tactic(auto, using(crate::proofs::MatchByMatch::waiting_past))]
 pub fn all_by(table: &Table, world: &World, key: Key, me: u32) -> Result<Vec<u32>, AllocError>
     ensures { IfOk result (λ all. all.items ≡ waiting_by table.now world.now key me) }
 {
@@ -72,6 +74,7 @@ pub fn all_by(table: &Table, world: &World, key: Key, me: u32) -> Result<Vec<u32
 
 /// Returns how many issued requests match, except LINK_TIMEOUTs and the request `me` that searches.
 /// Doesn't allocate.
+#[tactic(auto, using(crate::proofs::MatchByMatch::count_more, crate::proofs::MatchByMatch::count_past))]
 pub fn count_by(table: &Table, key: Key, me: u32) -> u32
     ensures { result ≡ length (matches_of table.now key me) }
 {
@@ -120,6 +123,7 @@ fn user_of(key: Key) -> Option<u64>
 // The first match from a number on, by two searches in turn: one examines the issued requests by
 // ascending number, the other those with the hash of the user_data, by descending number. They stop
 // where the first decides, or where they meet.
+#[tactic(auto, using(crate::proofs::InTurn::met_few))]
 fn next_with_user(table: &Table, key: Key, me: u32, from: u32, user_data: u64) -> Option<(u32, Row)>
     requires { user_of key ≡ Some user_data }
     ensures some { IfSome result (λ p. IsNextMatch table.now key me from p.0 p.1) }

@@ -10,6 +10,7 @@ use std::alloc::AllocError;
 
 /// Merges two lists of completions, sorted by request number. For a request in both, the result in
 /// `first` counts. Doesn't allocate if `others` is empty.
+#[tactic(auto, using(crate::proofs::Listed::direct_endings))]
 pub(crate) fn add(
     table: &Table,
     first: Vec<(u32, i32)>,

@@ -37,6 +37,7 @@ pub fn count(table: &Table, endings: &[(u32, i32)]) -> u32
 
 /// Returns the TIMEOUTs whose count `total` has reached, each with result 0. No other request is
 /// examined.
+#[tactic(auto, using(crate::proofs::Meeting::met_all))]
 pub(crate) fn met(table: &Table, total: u32) -> Result<Vec<(u32, i32)>, AllocError>
     requires { total < 2 ^ 32 - 1 }
     ensures { IfOk result (λ met. met.items ≡ met_rows table.now total) }

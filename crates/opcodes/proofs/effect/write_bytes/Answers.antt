@@ -1,26 +1,13 @@
-use Rattle.std.proofs.Common.{sym, arith}
+use Rattle.std.proofs.Common.{sym}
 use Rattle.opcodes.proofs.Nothing.{bytes_written_nothing}
 use Rattle.std.specs.Prelude.{Some}
 use Rattle.opcodes.specs.Outcomes.{offset_of, position_of}
 use Rattle.model_files.proofs.Fixing.{setup_then, setup_written}
-use Rattle.opcodes.proofs.Transferring.{file_there, ok_written, some_bytes}
-use Rattle.opcodes.proofs.Moving.{moves, number_below}
+use Rattle.opcodes.proofs.Transferring.{some_bytes}
 use Rattle.opcodes.proofs.effect.write_bytes.Goals as goal
-
-pub write_at-requires-clause-file : goal.write_at-requires-clause-file
-write_at-requires-clause-file c = file_there c.args.world.now c.requires.formed c.args.descriptor.now.object c.requires.file
-
-pub returns-clause-ok : goal.returns-clause-ok
-returns-clause-ok c = ok_written c.args.entry.now c.args.fd c.args.descriptor.now c.args.count c.args.world.now c.write_at.new.self c.move_on.new.world c.move_on.result (rw (c.narrow.ensures, c.narrow-2.ensures, c.offset_of-offset.ensures, c.position_of.ensures) at c.in_ok-write_at.ensures.ok) c.move_on.ensures.ok
 
 pub returns-clause-setup : goal.returns-clause-setup
 returns-clause-setup c = setup_then c.args.world.now c.write_at.new.self c.move_on.new.world (rw (c.in_ok-write_at.ensures.ok, c.narrow.ensures, c.narrow-2.ensures, c.offset_of-offset.ensures, c.position_of.ensures) (setup_written c.args.descriptor.now.object (offset_of c.args.entry.now (position_of (Some c.args.descriptor.now))) c.args.count c.args.entry.now.addr c.args.world.now c.requires.formed (c.requires.in_file (some_bytes c.args.count c.if-count-eq0.false)))) c.move_on.ensures.setup
 
 pub returns-then-count-eq0-clause-ok : goal.returns-then-count-eq0-clause-ok
 returns-then-count-eq0-clause-ok c = rw c.if-count-eq0.true (sym (bytes_written_nothing c.args.entry.now c.args.fd c.args.descriptor.now c.args.world.now c.requires.formed c.requires.descriptor))
-
-pub returns-clause-err : goal.returns-clause-err
-returns-clause-err c =
-    let room = c.in_ok-room_for_numbers.ensures.room in
-    let kept = c.write_at.ensures.numbers in
-    moves c.move_on.result _ (c.move_on.ensures.there (omega (arith, room, kept)) (number_below c.args.world.now c.args.fd c.args.descriptor.now c.requires.formed c.requires.descriptor))

@@ -1,9 +1,6 @@
 use Rattle.std.proofs.lemmas.Option.{slice_get-get_or}
-use Rattle.overflow.proofs.Posting.{posting_starts, posting_room, posting_on}
+use Rattle.overflow.proofs.Posting.{posting_room, posting_on}
 use Rattle.overflow.proofs.delivering.post_in_order.Goals as goal
-
-pub loop-completion-init : goal.loop-completion-init
-loop-completion-init c = posting_starts _ _ _ c.requires.formed
 
 pub post-requires-clause-free : goal.post-requires-clause-free
 post-requires-clause-free c = posting_room _ _ _ _ _ _ c.loop-completion.invariant c.requires.free c.loop-completion-test.true

@@ -1,4 +1,4 @@
-use Rattle.std.proofs.Common.{◌≡◌, ◌∙◌, ℕ, pos, true, false, sym, ap, subst, List, [], ◌∷◌, ◌++◌, ◌+◌, w32, FitsSigned, rules, slice_index_or}
+use Rattle.std.proofs.Common.{◌≡◌, ◌∙◌, pos, true, false, sym, ap, subst, List, [], ◌∷◌, ◌++◌, ◌+◌, w32, FitsSigned, rules, slice_index_or}
 use Rattle.std.specs.Prelude.{◌&&◌}
 use Rattle.std.proofs.lemmas.Int.{to_z-of_z}
 use Rattle.std.proofs.lemmas.Option.{slice_get-get_or}
@@ -10,10 +10,6 @@ use Rattle.timeouts_cancel.proofs.Severing.{both}
 use Rattle.timeouts_cancel.proofs.Walking.{walked_direct}
 use Rattle.timeouts_cancel.proofs.Sweeping.{sweep_start}
 use Rattle.timeouts_cancel.proofs.cascading.end_one.Goals as goal
-
--- The direct completion at index `at`.
-abbrev pair_of : List Ending → ℕ → Ending
-pair_of direct at = slice_index_or direct at (0, pos 0)
 
 pub sever-requires-clause-sweeping : goal.sever-requires-clause-sweeping
 sever-requires-clause-sweeping c =

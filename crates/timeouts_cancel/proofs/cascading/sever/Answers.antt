@@ -1,7 +1,6 @@
 use Rattle.std.proofs.Common.{◌≡◌, ◌∙◌, ℕ, Some, None, refl, sym, ap, subst, cond, ◌++◌, ◌∷◌, [], List, ◌≤◌, arith, w32, FitsSigned, rules}
 use Rattle.std.proofs.lemmas.Int.{to_z-of_z}
 use Rattle.std.proofs.lemmas.List.{append-nil}
-use Rattle.std.proofs.lemmas.Option.{slice_get_within}
 use Rattle.entries.specs.declared.row.Row.{Row}
 use Rattle.links_drains.specs.Endings.{Ending, ecanceled, paired}
 use Rattle.timeouts_cancel.specs.Walks.{Sweeping, SweepsOn}
@@ -22,13 +21,6 @@ returns-then-row-unit-clause-walked c = (
   c.loop-k.k,
   sweep_end c.args.table.now c.args.direct.now _ _ _ _ c.len-k-end.ensures.chained c.requires.direct c.loop-k.invariant.sweeping
       (λ row h u. c.if-row-unit.true (ap (λ (x : Row). x.unit) (same_row c.row-row.result row (sym c.row-row.ensures ∙ h)) ∙ u)),
-)
-
-pub returns-clause-walked : goal.returns-clause-walked
-returns-clause-walked c = (
-  c.loop-k.k,
-  sweep_end c.args.table.now c.args.direct.now _ _ _ _ c.len-k-end.ensures.chained c.requires.direct c.loop-k.invariant.sweeping
-      (λ row h u. let n = slice_get_within c.args.table.now c.loop-k.k row h in absurd (omega (arith, n, c.loop-k-test.false, c.len-k-end.ensures.len))),
 )
 
 pub loop-k-preserved : goal.loop-k-preserved

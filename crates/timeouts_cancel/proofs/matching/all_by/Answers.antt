@@ -1,6 +1,6 @@
 use Rattle.std.proofs.Common.{◌∙◌, ◌++◌, ◌∷◌, [], sym, ap, true, false}
 use Rattle.std.proofs.lemmas.List.{append-nil}
-use Rattle.timeouts_cancel.proofs.MatchByMatch.{waiting_on, waiting_past}
+use Rattle.timeouts_cancel.proofs.MatchByMatch.{waiting_on}
 use Rattle.timeouts_cancel.proofs.matching.all_by.Goals as goal
 use Rattle.timeouts_cancel.proofs.matching.all_by.Goals.{then-not-is_running+in_ok-push, else-not-is_running}
 
@@ -11,6 +11,3 @@ loop-r-preserved c = elim c.if-not-is_running.branch [
   | else-not-is_running w ↦ ap (λ v. v.items) w.all-is ∙ c.loop-r.invariant ∙ sym (append-nil _)
       ∙ sym (waiting_on c.args.table.now c.args.world.now c.args.key c.args.me c.loop-r.from c.in-Some.r c.in-Some.row true c.in-Some.ensures.some (sym c.is_running.ensures ∙ w.if-not-is_running.false))
 ]
-
-pub returns : goal.returns
-returns c = c.loop-r.invariant ∙ waiting_past c.args.table.now c.args.world.now c.args.key c.args.me c.loop-r.from c.in_default.ensures.none

@@ -1,7 +1,7 @@
-use Rattle.std.proofs.Common.{◌∙◌, sym, ap, subst, List, []}
-use Rattle.links_drains.specs.Endings.{Direct, Ending, result_in}
+use Rattle.std.proofs.Common.{◌∙◌, sym, ap, List, []}
+use Rattle.links_drains.specs.Endings.{Ending, result_in}
 use Rattle.timeouts_cancel.specs.Cascades.{joined}
-use Rattle.timeouts_cancel.proofs.Listed.{direct_endings, joined_none, nothing_in}
+use Rattle.timeouts_cancel.proofs.Listed.{joined_none, nothing_in}
 use Rattle.timeouts_cancel.proofs.merging.add.Goals as goal
 
 pub returns-then-is_empty : goal.returns-then-is_empty
@@ -9,8 +9,3 @@ returns-then-is_empty c =
     let f = c.requires.first in
     let none = nothing_in c.args.others.now (sym c.is_empty.ensures ∙ c.if-is_empty.true) in
     f.1 ∙ sym (ap (λ (es : List Ending). joined c.args.table.now (λ r row. result_in es r) c.args.first.items) none ∙ ap (λ (es : List Ending). joined c.args.table.now (λ r row. result_in [] r) es) f.1 ∙ joined_none f.0 c.args.table.now)
-
-pub merge-requires-clause-first : goal.merge-requires-clause-first
-merge-requires-clause-first c =
-    let f = c.requires.first in
-    subst (Direct c.args.table.now) (sym (c.deref.ensures.value ∙ f.1)) (direct_endings f.0 c.args.table.now)

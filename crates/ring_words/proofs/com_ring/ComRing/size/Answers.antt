@@ -1,4 +1,0 @@
-use Rattle.ring_words.proofs.com_ring.ComRing.size.Goals as goal
-
-pub returns-clause-formed : goal.returns-clause-formed
-returns-clause-formed c = rw (← c.self.view_is) c.self.invariant
