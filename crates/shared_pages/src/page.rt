@@ -59,15 +59,6 @@ impl<T: Copy> Page<T> {
         }
     }
 
-    /// Replaces the contents with a shared copy. Allocates nothing.
-    pub fn lend(&mut self, shared: Arc<Vec<T>>)
-        requires { length self.old ≡ length shared.value.items }
-        ensures { self.new ≡ shared.value.items }
-    {
-        self.shared = Some(shared);
-        self.is_lent = true;
-    }
-
     /// Assigns an element. Allocates nothing.
     pub fn set(&mut self, at: usize, element: T)
         requires { at < length self.old }
@@ -101,8 +92,8 @@ impl<T: Copy> Page<T> {
 
     /// Returns a copy that shares the contents. Copies them only if they were written since the
     /// last copy.
-    pub fn keep(&mut self, alloc: Global) -> Result<Arc<Vec<T>>, AllocError>
-        ensures ok { IfOk result (λ k. k.value.items ≡ self.old) }
+    pub fn share(&mut self, alloc: Global) -> Result<Arc<Vec<T>>, AllocError>
+        ensures ok { IfOk result (λ copy. copy.value.items ≡ self.old) }
         ensures same { self.new ≡ self.old }
     {
         if let Some(shared) = &self.shared {
@@ -115,6 +106,25 @@ impl<T: Copy> Page<T> {
         let theirs = Arc::try_clone(&shared)?;
         self.shared = Some(shared);
         Ok(theirs)
+    }
+
+    /// Returns a page with the contents of a shared copy, in the storage of `room` if that has the
+    /// same length. Then it copies no elements and allocates nothing.
+    pub fn restore(
+        alloc: Global,
+        shared: &Arc<Vec<T>>,
+        room: Option<Page<T>>,
+    ) -> Result<Page<T>, AllocError>
+        ensures { IfOk result (λ page. page ≡ shared.now.value.items) }
+    {
+        match room {
+            Some(mut page) if page.len() == shared.len() => {
+                page.shared = Some(Arc::try_clone(shared)?);
+                page.is_lent = true;
+                Ok(page)
+            }
+            _ => Ok(Page::new(Vec::from_slice(alloc, shared.as_slice())?)),
+        }
     }
 }
 

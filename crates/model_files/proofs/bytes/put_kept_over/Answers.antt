@@ -4,7 +4,7 @@ use Rattle.std.proofs.lemmas.Option.{slice_get-get_or}
 use Rattle.places.specs.Stretched.{kept_of}
 use Rattle.places.proofs.MaskedLemmas.{length_kept}
 use Rattle.model_files.proofs.PuttingOver.{PuttingOver, putting_from, putting_on, putting_all, far_enough}
-use Rattle.model_files.proofs.bytes.put_over_slice.Goals as goal
+use Rattle.model_files.proofs.bytes.put_kept_over.Goals as goal
 
 pub loop-i-init : goal.loop-i-init
 loop-i-init c = putting_from _ _ _ _ (omega (arith, c.min-from.ensures))
