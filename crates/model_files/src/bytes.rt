@@ -51,9 +51,8 @@ fn put_kept_over(bytes: &mut Page<u8>, stretch: &Stretch<'_>)
     let most = bytes.len() - from;
     let n = stretch.olds.len().min(most);
     for i in 0..n {
-        if let Some(old) = stretch.kept(i) {
-            bytes.set(from + i, old);
-        }
+        let at = from + i;
+        bytes.set(at, stretch.kept(i).unwrap_or(bytes.as_slice()[at]));
     }
 }
 

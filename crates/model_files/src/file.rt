@@ -91,13 +91,15 @@ impl SharedFile {
         ensures { IfOk result (λ f. f ≡ self.now) }
     {
         let (bytes, durable) = match room {
-            Some(RegularFile {
-                bytes,
-                len: _,
-                durable,
-                durable_len: _,
-                dirty: _,
-            }) => (Some(bytes), Some(durable)),
+            Some(
+                RegularFile {
+                    bytes,
+                    len: _,
+                    durable,
+                    durable_len: _,
+                    dirty: _,
+                },
+            ) => (Some(bytes), Some(durable)),
             None => (None, None),
         };
         Ok(RegularFile {

@@ -58,11 +58,13 @@ impl SharedPipe {
         ensures { IfOk result (λ pipe. pipe ≡ self.now) }
     {
         let slots = match room {
-            Some(PipeBuffer {
-                slots,
-                put: _,
-                taken: _,
-            }) => Some(slots),
+            Some(
+                PipeBuffer {
+                    slots,
+                    put: _,
+                    taken: _,
+                },
+            ) => Some(slots),
             None => None,
         };
         Ok(PipeBuffer {

@@ -3,8 +3,8 @@ ghost use Rattle.std.specs.Prelude.{◌≡◌, IfOk};
 ghost use Rattle.model_files.specs.Shared.{body_of};
 
 use crate::body::Body;
-use crate::file::SharedFile;
-use crate::pipe::SharedPipe;
+use crate::file::{RegularFile, SharedFile};
+use crate::pipe::{PipeBuffer, SharedPipe};
 use std::alloc::{AllocError, Global};
 
 /// A copy of an object that shares its bytes.
@@ -22,16 +22,26 @@ impl SharedBody {
         ensures { IfOk result (λ body. body ≡ body_of self.now) }
     {
         Ok(match self {
-            SharedBody::File(file) => match room {
-                Some(Body::File(room)) => Body::File(file.restore(alloc, Some(room))?),
-                _ => Body::File(file.restore(alloc, None)?),
-            },
-            SharedBody::Pipe(pipe) => match room {
-                Some(Body::Pipe(room)) => Body::Pipe(pipe.restore(alloc, Some(room))?),
-                _ => Body::Pipe(pipe.restore(alloc, None)?),
-            },
+            SharedBody::File(file) => Body::File(file.restore(alloc, file_in(room))?),
+            SharedBody::Pipe(pipe) => Body::Pipe(pipe.restore(alloc, pipe_in(room))?),
             SharedBody::EventFd(counter) => Body::EventFd(*counter),
         })
+    }
+}
+
+fn file_in(room: Option<Body>) -> Option<RegularFile> {
+    match room? {
+        Body::File(file) => Some(file),
+        Body::Pipe(_pipe) => None,
+        Body::EventFd(_counter) => None,
+    }
+}
+
+fn pipe_in(room: Option<Body>) -> Option<PipeBuffer> {
+    match room? {
+        Body::Pipe(pipe) => Some(pipe),
+        Body::File(_file) => None,
+        Body::EventFd(_counter) => None,
     }
 }
 

@@ -25,10 +25,9 @@ use crate::start::{copy_objects, start_descriptors, start_objects};
 use crate::stock::Stock;
 use places::{At, Descriptor, Object, Part, Place, Recorder, Region, Stretch, Value};
 use shared_pages::Page;
+pub use sharing::SharedWorld;
 use std::alloc::{AllocError, Global};
 use std::marker::Model;
-
-pub use sharing::SharedWorld;
 
 /// The memory, the objects and the descriptors. A transfer needs an object of its own kind, and with
 /// any other it changes nothing.

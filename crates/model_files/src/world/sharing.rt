@@ -40,14 +40,7 @@ impl SharedWorld {
     pub fn restore(&self, alloc: Global, room: Option<World>) -> Result<World, AllocError>
         ensures { IfOk result (λ world. world ≡ self.now) }
     {
-        let (memory, objects) = match room {
-            Some(World {
-                memory,
-                objects,
-                descriptors: _,
-            }) => (Some(memory), objects),
-            None => (None, Vec::new(alloc)),
-        };
+        let (memory, objects) = rooms_in(alloc, room);
         Ok(World {
             memory: Page::restore(alloc, &self.memory, memory)?,
             objects: restore_objects(alloc, &self.objects, objects)?,
@@ -69,6 +62,19 @@ impl World {
             descriptors: Vec::from_slice(alloc, &self.descriptors)?,
         })
     }
+}
+
+// Returns the memory and the objects of a world, to be written over.
+fn rooms_in(alloc: Global, room: Option<World>) -> (Option<Page<u8>>, Vec<Body>) {
+    let Some(world) = room else {
+        return (None, Vec::new(alloc));
+    };
+    let World {
+        memory,
+        objects,
+        descriptors: _descriptors,
+    } = world;
+    (Some(memory), objects)
 }
 
 // Returns shared copies of the objects.

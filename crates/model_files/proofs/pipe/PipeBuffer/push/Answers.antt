@@ -9,4 +9,4 @@ returns c =
     let some : 0 < length p.slots = rw (← c.self.view_is) at c.requires.some in
     let room : length c.args.others.now ≤ length p.slots = rw (← c.self.view_is) at c.requires.room in
     rw (← c.self.view_is)
-    (pushed_is p c.overwrite.new.bytes c.overwrite-2.new.bytes c.args.others.now c.split_at.result.0.now c.split_at.result.1.now c.len.result c.len-2.result c.min.result (c.len.ensures ∙ c.self.inside.slots.ok.0) (c.len-2.ensures ∙ c.self.inside.slots.ok.0) c.min.ensures c.split_at.ensures.front c.split_at.ensures.back some room c.overwrite.ensures.next c.overwrite-2.ensures.next)
+    (pushed_is p c.overwrite.new.bytes c.overwrite-2.new.bytes c.args.others.now c.split_at.result.0.now c.split_at.result.1.now c.len.result c.len-2.result c.min.result c.len.ensures c.len-2.ensures c.min.ensures c.split_at.ensures.front c.split_at.ensures.back some room c.overwrite.ensures.next c.overwrite-2.ensures.next)

@@ -18,7 +18,7 @@ returns-clause-ok c =
 pub returns-in_err-note_differing-clause-keeps : goal.returns-in_err-note_differing-clause-keeps
 returns-in_err-note_differing-clause-keeps c =
     let w : WorldState = record { memory = c.self.inside.memory; objects = c.self.inside.objects.items; descriptors = c.self.inside.descriptors.items } in
-    rw (← c.self.view_is) (keeps_memory_bytes w c.args.address ((c.args.address + c.args.count) - c.args.address) _ _ (rw c.deref.ensures.value at c.in_err-note_differing.ensures.among))
+    rw (← c.self.view_is) (keeps_memory_bytes w c.args.address ((c.args.address + c.args.count) - c.args.address) _ _ (rw c.as_slice.ensures at c.in_err-note_differing.ensures.among))
 
 pub returns-clause-keeps : goal.returns-clause-keeps
 returns-clause-keeps c =
@@ -28,5 +28,5 @@ returns-clause-keeps c =
     let count : length (part c.bytes.result.now c.args.offset ((c.args.offset + c.args.count) - c.args.offset)) ≡ (c.args.address + c.args.count) - c.args.address =
     length-part c.bytes.result.now c.args.offset ((c.args.offset + c.args.count) - c.args.offset) (let w = c.requires.in_file in omega arith) ∙ omega arith in
     rw (← c.self.view_is, c.overwrite.ensures.next)
-    (keeps_memory w c.args.address ((c.args.address + c.args.count) - c.args.address) _ _ _ (omega arith) count (rw c.deref.ensures.value at c.in_ok-note_differing.ensures.among)
-    (rw c.deref.ensures.value at c.in_ok-note_differing.ensures.noted))
+    (keeps_memory w c.args.address ((c.args.address + c.args.count) - c.args.address) _ _ _ (omega arith) count (rw c.as_slice.ensures at c.in_ok-note_differing.ensures.among)
+    (rw c.as_slice.ensures at c.in_ok-note_differing.ensures.noted))

@@ -34,20 +34,19 @@ returns-in-Some-object_in-clause-setup c =
     let found = body_there w c.in-Some-object_in.object c.index_mut.result.now c.args.place owner asked.there c.index_mut.ensures.value in
     rw (← c.self.view_is) (one_setup_body w c.in-Some-object_in.object c.index_mut.result.now c.set.new.self found c.set.ensures.kind)
 
-pub index_mut-requires-in-MemoryByte-Byte : goal.index_mut-requires-in-MemoryByte-Byte
-index_mut-requires-in-MemoryByte-Byte c =
+pub set-requires-in-MemoryByte-Byte : goal.set-requires-in-MemoryByte-Byte
+set-requires-in-MemoryByte-Byte c =
     let w : WorldState = record { memory = c.self.inside.memory; objects = c.self.inside.objects.items; descriptors = c.self.inside.descriptors.items } in
     let asked : CanPut (world_seen w) c.args.place c.in-Some.value = rw (← c.self.view_is, c.in-Some.is) at c.requires in
     let there = rw c.in-MemoryByte-Byte.is-0 at asked.there in
-    let within : c.in-MemoryByte-Byte.address < length w.memory = byte_within w.memory c.in-MemoryByte-Byte.address there in
-    omega (arith, c.self.inside.memory.ok.0, within)
+    byte_within w.memory c.in-MemoryByte-Byte.address there
 
 pub returns-in-MemoryByte-Byte-clause-put : goal.returns-in-MemoryByte-Byte-clause-put
 returns-in-MemoryByte-Byte-clause-put c =
     let w : WorldState = record { memory = c.self.inside.memory; objects = c.self.inside.objects.items; descriptors = c.self.inside.descriptors.items } in
     let asked : CanPut (world_seen w) c.args.place c.in-Some.value = rw (← c.self.view_is, c.in-Some.is) at c.requires in
     let there = rw c.in-MemoryByte-Byte.is-0 at asked.there in
-    rw (← c.self.view_is, c.in-Some.is, c.in-MemoryByte-Byte.is-0, c.in-MemoryByte-Byte.is-1) (put_memory w c.in-MemoryByte-Byte.address c.in-MemoryByte-Byte.byte (byte_within w.memory c.in-MemoryByte-Byte.address there))
+    rw (← c.self.view_is, c.in-Some.is, c.in-MemoryByte-Byte.is-0, c.in-MemoryByte-Byte.is-1, c.set-in-MemoryByte-Byte.ensures) (put_memory w c.in-MemoryByte-Byte.address c.in-MemoryByte-Byte.byte (byte_within w.memory c.in-MemoryByte-Byte.address there))
 
 pub index_mut-requires-in-Position-Number : goal.index_mut-requires-in-Position-Number
 index_mut-requires-in-Position-Number c =
