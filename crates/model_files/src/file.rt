@@ -176,9 +176,9 @@ impl RegularFile {
         ensures same { self.new ≡ self.old }
     {
         Ok(SharedFile {
-            bytes: self.bytes.share(alloc)?,
+            bytes: self.bytes.keep(alloc)?,
             len: self.len,
-            durable: self.durable.share(alloc)?,
+            durable: self.durable.keep(alloc)?,
             durable_len: self.durable_len,
             dirty: self.dirty,
         })

@@ -128,7 +128,7 @@ impl PipeBuffer {
         ensures same { self.new ≡ self.old }
     {
         Ok(SharedPipe {
-            slots: self.slots.share(alloc)?,
+            slots: self.slots.keep(alloc)?,
             put: self.put,
             taken: self.taken,
         })

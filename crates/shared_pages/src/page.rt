@@ -59,6 +59,15 @@ impl<T: Copy> Page<T> {
         }
     }
 
+    /// Replaces the contents with a shared copy. Allocates nothing.
+    pub fn lend(&mut self, shared: Arc<Vec<T>>)
+        requires { length self.old ≡ length shared.value.items }
+        ensures { self.new ≡ shared.value.items }
+    {
+        self.shared = Some(shared);
+        self.is_lent = true;
+    }
+
     /// Assigns an element. Allocates nothing.
     pub fn set(&mut self, at: usize, element: T)
         requires { at < length self.old }
@@ -92,8 +101,8 @@ impl<T: Copy> Page<T> {
 
     /// Returns a copy that shares the contents. Copies them only if they were written since the
     /// last copy.
-    pub fn share(&mut self, alloc: Global) -> Result<Arc<Vec<T>>, AllocError>
-        ensures ok { IfOk result (λ copy. copy.value.items ≡ self.old) }
+    pub fn keep(&mut self, alloc: Global) -> Result<Arc<Vec<T>>, AllocError>
+        ensures ok { IfOk result (λ k. k.value.items ≡ self.old) }
         ensures same { self.new ≡ self.old }
     {
         if let Some(shared) = &self.shared {
@@ -119,8 +128,7 @@ impl<T: Copy> Page<T> {
     {
         match room {
             Some(mut page) if page.len() == shared.len() => {
-                page.shared = Some(Arc::try_clone(shared)?);
-                page.is_lent = true;
+                page.lend(Arc::try_clone(shared)?);
                 Ok(page)
             }
             _ => Ok(Page::new(Vec::from_slice(alloc, shared.as_slice())?)),

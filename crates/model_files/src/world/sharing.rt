@@ -57,7 +57,7 @@ impl World {
         ensures same { self.new ≡ self.old }
     {
         Ok(SharedWorld {
-            memory: self.memory.share(alloc)?,
+            memory: self.memory.keep(alloc)?,
             objects: share_objects(alloc, &mut self.objects)?,
             descriptors: Vec::from_slice(alloc, &self.descriptors)?,
         })
