@@ -96,6 +96,7 @@ impl<N: Slotted + Copy> Slots<N> {
 
     /// Adds a note, unless its place has one. Allocates nothing if there is reserved memory
     /// and a mark for its slot.
+    #[inline(always)]
     pub fn note(&mut self, note: N) -> Result<(), AllocError>
         ensures ok { OnOk result
             (Noted (map N.change self.old.notes) (map N.change self.new.notes) (N.change note).place
