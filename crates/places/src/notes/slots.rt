@@ -152,8 +152,9 @@ impl<N: Slotted + Copy> Slots<N> {
         ensures once { NamesOnce (map N.change self.old.notes) }
         ensures none { self.new.notes ≡ [] }
     {
-        drop_same_notes(&mut self.notes, whole);
-        take_notes(&mut self.notes)
+        let mut notes = take_notes(&mut self.notes);
+        drop_same_notes(&mut notes, whole);
+        notes
     }
 
     /// Removes all notes. Their memory stays for later ones, unless it is large.
