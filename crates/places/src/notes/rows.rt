@@ -51,6 +51,7 @@ pub enum RowNote {
 
 impl Small {
     /// Converts a value; returns `None` for a row.
+    #[inline(always)]
     pub fn from_value(value: Value) -> Option<Small>
         ensures { MatchOption result ((row : Row)
             × (value ≡ Requested row)) (λ s. value_of s ≡ value) }
@@ -86,6 +87,7 @@ impl Small {
 
 impl RowNote {
     /// Builds the note of a request.
+    #[inline(always)]
     pub fn new(row: u32, old: Option<Row>) -> RowNote
         ensures { row_change result
             ≡ record { place = Request row; old = option_map Requested old } }
@@ -97,6 +99,7 @@ impl RowNote {
     }
 
     /// Builds the note of another place.
+    #[inline(always)]
     pub fn of_other(place: Place, old: Option<Small>) -> RowNote
         requires { is_other place ≡ true }
         ensures { row_change result ≡ record { place = place; old = option_map value_of old } }

@@ -96,6 +96,7 @@ impl<N: Slotted + Copy> Slots<N> {
 
     /// Adds a note, unless its place has one. Allocates nothing if there is reserved memory
     /// and a mark for its slot.
+    #[inline(always)]
     pub fn note(&mut self, note: N) -> Result<(), AllocError>
         ensures ok { OnOk result
             (Noted (map N.change self.old.notes) (map N.change self.new.notes) (N.change note).place
@@ -151,8 +152,9 @@ impl<N: Slotted + Copy> Slots<N> {
         ensures once { NamesOnce (map N.change self.old.notes) }
         ensures none { self.new.notes ≡ [] }
     {
-        drop_same_notes(&mut self.notes, whole);
-        take_notes(&mut self.notes)
+        let mut notes = take_notes(&mut self.notes);
+        drop_same_notes(&mut notes, whole);
+        notes
     }
 
     /// Removes all notes. Their memory stays for later ones, unless it is large.
