@@ -1,5 +1,5 @@
 -- The contents of a page.
-use Rattle.std.specs.Prelude.{◌≡◌, ℕ, List, length, Bool, true, false, Option, Some, None}
+use Rattle.std.specs.Prelude.{◌≡◌, List, length, Bool, true, false, Option, Some, None}
 
 -- The contents: the shared copy if the page is lent, else its own elements.
 abbrev pub shown : {T : Type 0} → Bool → Option (List T) → List T → List T

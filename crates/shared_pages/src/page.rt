@@ -1,5 +1,5 @@
 //! A page of elements that shares its contents with copies until it is written.
-ghost use Rattle.std.specs.Prelude.{◌≡◌, ◌<◌, ◌≤◌, ◌+◌, length, slice_set, IfOk, option_map};
+ghost use Rattle.std.specs.Prelude.{◌≡◌, ◌<◌, ◌≤◌, ◌+◌, ◌++◌, length, take, drop, slice_set, IfOk, option_map};
 ghost use Rattle.shared_pages.specs.Pages.{shown, IsWhole};
 
 use std::alloc::{AllocError, Global};
@@ -77,6 +77,26 @@ impl<T: Copy> Page<T> {
         self.is_lent = false;
         self.shared = None;
         self.own[at] = element;
+    }
+
+    /// Writes elements from an index on. Allocates nothing.
+    pub fn overwrite(&mut self, at: usize, others: &[T])
+        requires { at + length others.now ≤ length self.old }
+        ensures { self.new ≡ take at self.old
+            ++ (others.now ++ drop (at + length others.now) self.old) }
+    {
+        fill(&mut self.own, self.is_lent, &self.shared);
+        self.is_lent = false;
+        self.shared = None;
+        let end = at + others.len();
+        self.own[at..end].copy_from_slice(others);
+    }
+
+    /// Returns a copy with storage of its own.
+    pub fn copy(&self, alloc: Global) -> Result<Page<T>, AllocError>
+        ensures { IfOk result (λ page. page ≡ self.now) }
+    {
+        Ok(Page::new(Vec::from_slice(alloc, self.as_slice())?))
     }
 
     /// Returns a copy that shares the contents. Copies them only if they were written since the
