@@ -233,3 +233,15 @@ indexed_empty index a b c d e = record {
   issued = λ r. ap (λ w. has w r) d ∙ has_past [] r (omega arith);
   thresholds = λ r. ap (λ w. threshold_at w r) e ∙ get_or_past [] r never (omega arith);
 }
+
+-- The rows after some were dropped from the end.
+pub indexed_left : (rows left : List Row) (old new : Index) (n k : ℕ) → Indexed rows old → length rows ≡ n → left ≡ take k rows → k ≤ n → 0 < k → Forgotten k n old new
+    → (row : Row) × (slice_get left (k - 1) ≡ Some row) × IndexedBut (k - 1) row.unit left new
+indexed_left rows left old new n k i len is within some f =
+    let last = last_kept rows k some (omega (arith, len, within)) in
+    let g : Forgotten k (length rows) old new = rw len f in
+    rw is (last.0, last.2, indexed_take rows old new k last.0 i some last.1 g)
+
+pub indexed_none_left : (rows left : List Row) (old new : Index) (n : ℕ) → Indexed rows old → length rows ≡ n → length left ≡ 0 → Forgotten 0 n old new → Indexed left new
+indexed_none_left rows [] old new n i len none f = indexed_none rows old new i (rw len f)
+indexed_none_left rows (x ∷ left) old new n i len none f = absurd (omega (arith, none))

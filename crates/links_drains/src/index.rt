@@ -81,16 +81,15 @@ impl Index {
     /// Drops the requests after those that are left, up to number n, in time linear in how many they
     /// are.
     pub(crate) fn cut(&mut self, rows: &Rows, n: usize)
-        ghost before: { List Row }
-        requires indexed { Indexed before self.old }
-        requires len { length before ≡ n }
-        requires left { rows.now ≡ take (length rows.now) before }
+        requires cut { (before : List Row) × Indexed before self.old × (length before ≡ n)
+            × (rows.now ≡ take (length rows.now) before) }
         requires within { length rows.now ≤ n }
         ensures { Indexed rows.now self.new }
     {
-        self.forget(rows.len(), n);
-        if !rows.is_empty() {
-            self.update(rows, rows.len() - 1);
+        let left = rows.len();
+        self.forget(left, n);
+        if left > 0 {
+            self.update(rows, left - 1);
         }
     }
 

@@ -345,12 +345,12 @@ impl Table {
     pub fn truncate(&mut self, n: usize)
         ensures { self.new ≡ take n self.old }
     {
-        if n < self.rows.len() {
-            let len = self.rows.len();
+        let count = self.rows.len();
+        if n < count {
             take_all_off(&mut self.held, &self.rows, n);
             self.finder.cut(&self.rows, n);
             self.rows.truncate(n);
-            self.index.cut(&self.rows, len);
+            self.index.cut(&self.rows, count);
         }
     }
 

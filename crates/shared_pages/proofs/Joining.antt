@@ -1,12 +1,12 @@
 -- Lists in pages of one size: where an element is, and what changes one.
-use Rattle.std.proofs.Common.{◌≡◌, ℕ, zero, suc, refl, sym, ◌∙◌, ap, List, [], ◌∷◌, ◌++◌, length, take, drop, set, get_or, min, ◌+◌, ◌-◌, ◌*◌, ◌/◌, ◌%◌, ◌<◌, ◌≤◌, ◌⊎◌, inl, inr, arith}
-use Rattle.std.specs.Prelude.{Some, slice_get}
-use Rattle.std.proofs.lemmas.List.{get_or_append_left, get_or-append-add, set-append_left, set-append_right, take-append-le, take-take, length-take-le, length-append, length-set, get_or-take, take_all, get_or-set_same, get_or-set_other, append_assoc, take_more_set}
+use Rattle.std.proofs.Common.{◌≡◌, ℕ, zero, suc, refl, sym, ◌∙◌, ap, List, [], ◌∷◌, ◌++◌, length, map, take, drop, set, get_or, min, ◌+◌, ◌-◌, ◌*◌, ◌/◌, ◌%◌, ◌<◌, ◌≤◌, ◌⊎◌, inl, inr, arith}
+use Rattle.std.specs.Prelude.{Some, option_map, slice_get}
+use Rattle.std.proofs.lemmas.List.{get_or_append_left, get_or-append-add, set-append_left, set-append_right, take-append-le, take-take, length-take-le, length-drop, length-append, take-append-drop, length-set, get_or-take, take_all, get_or-set_same, get_or-set_other, append_assoc, take_more, take_more_set, map-append, length-map}
 use Rattle.std.proofs.Math.Seq.{take-append-add, take-set-lt}
 use Rattle.std.proofs.Math.Nat.{mul-le-mul_left}
 use Rattle.std.proofs.lemmas.Bool.{cases_lt}
-use Rattle.std.proofs.lemmas.Option.{slice_get_within, slice_get-get_or, get_or_from_slice_get, slice_get_read}
-use Rattle.shared_pages.specs.Lists.{joined, elements, IsPaged, IsPrepared}
+use Rattle.std.proofs.lemmas.Option.{slice_get-map, slice_get_within, slice_get-get_or, get_or_from_slice_get, slice_get_read}
+use Rattle.shared_pages.specs.Lists.{joined, elements, Extends, IsPaged, IsPrepared}
 
 -- Each page has n elements.
 abbrev pub Full : {T : Type 0} → ℕ → List (List T) → Type 0
@@ -193,31 +193,120 @@ paged_take n len k pages h there within = record {
     full_take n (first ∷ pages) (suc k) full zero p there = full 0 p there
     full_take n (first ∷ pages) (suc k) full (suc i) p there = full_take n pages k (λ j q h. full (suc j) q h) i p there
 
+full_take : {T : Type 0} (n : ℕ) (pages : List (List T)) (k : ℕ) → Full n pages → Full n (take k pages)
+full_take n [] zero full i p there = absurd cc
+full_take n [] (suc k) full i p there = absurd cc
+full_take n (first ∷ pages) zero full i p there = absurd cc
+full_take n (first ∷ pages) (suc k) full zero p there = full 0 p there
+full_take n (first ∷ pages) (suc k) full (suc i) p there = full_take n pages k (λ j q h. full (suc j) q h) i p there
+
+full_drop : {T : Type 0} (n k : ℕ) (own : List (List T)) → Full n own → Full n (drop k own)
+full_drop n zero [] full i p there = absurd cc
+full_drop n (suc k) [] full i p there = absurd cc
+full_drop n zero (page ∷ own) full i p there = full i p there
+full_drop n (suc k) (page ∷ own) full i p there = full_drop n k own (λ j q h. full (suc j) q h) i p there
+
+full_both : {T : Type 0} (n : ℕ) (own other : List (List T)) → Full n own → Full n other → Full n (other ++ own)
+full_both n own [] full rest i p there = full i p there
+full_both n own (page ∷ other) full rest zero p there = rest 0 p there
+full_both n own (page ∷ other) full rest (suc i) p there = full_both n own other full (λ j q h. rest (suc j) q h) i p there
+
 -- The pages of one list, over those of another.
 pub paged_over : {T : Type 0} (n len m k : ℕ) (own other : List (List T)) → IsPaged n len own → IsPaged n m other → IsPaged n m (other ++ drop k own)
 paged_over n len m k own other h o = record {
   positive = h.positive;
-  full = full_over n k own other h.full o.full;
+  full = full_both n (drop k own) other (full_drop n k own h.full) o.full;
   within = let w = o.within in let l = length-append other (drop k own) in let most = mul-le-mul_left n (le_more (length other) (length (drop k own))) in omega (arith, w, most, ap (λ c. n * c) l);
 }
   where
     le_more : (a b : ℕ) → a ≤ a + b
     le_more a b = omega arith
 
-    full_drop : {T : Type 0} (n k : ℕ) (own : List (List T)) → Full n own → Full n (drop k own)
-    full_drop n zero [] full i p there = absurd cc
-    full_drop n (suc k) [] full i p there = absurd cc
-    full_drop n zero (page ∷ own) full i p there = full i p there
-    full_drop n (suc k) (page ∷ own) full i p there = full_drop n k own (λ j q h. full (suc j) q h) i p there
+-- ---- Pages are added
 
-    full_over : {T : Type 0} (n k : ℕ) (own other : List (List T)) → Full n own → Full n other → Full n (other ++ drop k own)
-    full_over n k own [] full rest i p there = full_drop n k own full i p there
-    full_over n k own (page ∷ other) full rest zero p there = rest 0 p there
-    full_over n k own (page ∷ other) full rest (suc i) p there = full_over n k own other full (λ j q h. rest (suc j) q h) i p there
+pub extends_none : {T : Type 0} (others pages : List (List T)) → Extends others pages pages
+extends_none others pages n len m h o = (h, refl)
 
--- A page is replaced, from the last to the first.
-pub set_back : {X : Type 0} (old goal : List X) (j : ℕ) (x : X) → j < length old → j < length goal → x ≡ get_or goal j x → set (take (suc j) old ++ drop (suc j) goal) j x ≡ take j old ++ drop j goal
+pub extends_page : {T : Type 0} (others old new : List (List T)) (k : ℕ) (page : List T) → Extends others old new → slice_get others k ≡ Some page → Extends others old (new ++ page ∷ [])
+extends_page others old new k page e there n len m h o =
+    let f = e n len m h o in
+    (paged_append n len new page f.0 (o.full k page there), elements-append n len new (page ∷ []) f.0 ∙ f.1)
+
+-- ---- Pages are lent, from the last to the first
+
+set_back : {X : Type 0} (old goal : List X) (j : ℕ) (x : X) → j < length old → j < length goal → x ≡ get_or goal j x → set (take (suc j) old ++ drop (suc j) goal) j x ≡ take j old ++ drop j goal
 set_back [] goal j x a b e = absurd (omega (arith, a))
 set_back (o ∷ old) [] j x a b e = absurd (omega (arith, b))
 set_back (o ∷ old) (p ∷ goal) zero x a b e = ap (λ y. y ∷ goal) e
 set_back (o ∷ old) (p ∷ goal) (suc j) x a b e = ap (λ ys. o ∷ ys) (set_back old goal j x (omega (arith, a)) (omega (arith, b)) e)
+
+-- What remains after the last element of a prefix was taken, and that element.
+pub popped : {X : Type 0} (all rest : List X) (x : X) (k : ℕ) → length rest ≡ k → rest ++ x ∷ [] ≡ take (suc k) all → (rest ≡ take k all) × (slice_get all k ≡ Some x)
+popped [] [] x k n e = absurd cc
+popped [] (r ∷ rest) x k n e = absurd cc
+popped (a ∷ all) [] x zero n e = (refl, let same : x ≡ a = cc in ap Some (sym same))
+popped (a ∷ all) [] x (suc k) n e = absurd (omega (arith, n))
+popped (a ∷ all) (r ∷ rest) x zero n e = absurd (omega (arith, n))
+popped (a ∷ all) (r ∷ rest) x (suc k) n e =
+    let same : r ≡ a = cc in
+    let tail : rest ++ x ∷ [] ≡ take (suc k) all = cc in
+    let p = popped all rest x k (omega (arith, n)) tail in
+    (ap (λ y. y ∷ rest) same ∙ ap (λ ys. a ∷ ys) p.0, p.1)
+
+-- The pages as some of them are lent.
+abbrev pub lent_from : {X : Type 0} → ℕ → List X → List X → List X
+lent_from k own next = take k own ++ drop k (next ++ drop (length next) own)
+
+-- One more page is lent.
+pub lent_page : {X : Type 0} (pages own next : List X) (n k : ℕ) (x : X) → pages ≡ lent_from n own next → n ≡ suc k → length next ≤ length own → slice_get next k ≡ Some x → set pages k x ≡ lent_from k own next
+lent_page pages own next n k x e l room there =
+    let within = slice_get_within next k x there in
+    let goal = length-append next (drop (length next) own) in
+    rw (e, l) (set_back own (next ++ drop (length next) own) k x (omega (arith, within, room)) (omega (arith, within, goal)) (sym (get_or_append_left next (drop (length next) own) x k within ∙ get_or_from_slice_get next k x x there)))
+
+pub lent_length : {X : Type 0} (own next : List X) (j : ℕ) → length next ≤ length own → j ≤ length own → length (lent_from j own next) ≡ length own
+lent_length own next j room within =
+    let a = length-append (take j own) (drop j (next ++ drop (length next) own)) in
+    let b = length-take-le j own within in
+    let c = length-drop j (next ++ drop (length next) own) in
+    let d = length-append next (drop (length next) own) in
+    let e = length-drop (length next) own in
+    omega (arith, a, b, c, d, e, room, within)
+
+-- It has the size of the page that it replaces.
+pub lent_size : {T : Type 0} (pages own next : List (List T)) (n len m j k : ℕ) (page shown : List T) → pages ≡ lent_from j own next → IsPrepared n len own m next → j ≤ length own → k < j → page ≡ get_or pages k page → slice_get next k ≡ Some shown → length page ≡ length shown
+lent_size pages own next n len m j k page shown e h most less read there =
+    let full : Full n pages = rw e (full_both n (drop j (next ++ drop (length next) own)) (take j own) (full_drop n j (next ++ drop (length next) own) (full_both n (drop (length next) own) next (full_drop n (length next) own h.own.full) h.other.full)) (full_take n own j h.own.full)) in
+    let all = ap length e ∙ lent_length own next j h.room most in
+    full k page (slice_get_read pages (length pages) k page refl (omega (arith, all, most, less)) read) ∙ sym (h.other.full k shown there)
+
+-- All pages are lent.
+pub lent_all : {X : Type 0} (pages own next : List X) (n : ℕ) → pages ≡ lent_from n own next → n ≡ 0 → pages ≡ next ++ drop (length next) own
+lent_all pages own next n e l = e ∙ ap (λ k. lent_from k own next) l ∙ none own (next ++ drop (length next) own)
+  where
+    none : {X : Type 0} (xs ys : List X) → take 0 xs ++ drop 0 ys ≡ ys
+    none [] [] = refl
+    none [] (y ∷ ys) = refl
+    none (x ∷ xs) [] = refl
+    none (x ∷ xs) (y ∷ ys) = refl
+
+pub lent_none : {X : Type 0} (own next : List X) → length next ≤ length own → own ≡ lent_from (length next) own next
+lent_none own next room = sym (ap (λ xs. take (length next) own ++ xs) (after next (drop (length next) own)) ∙ take-append-drop (length next) own)
+  where
+    after : {X : Type 0} (xs ys : List X) → drop (length xs) (xs ++ ys) ≡ ys
+    after [] [] = refl
+    after [] (y ∷ ys) = refl
+    after (x ∷ xs) ys = after xs ys
+
+-- ---- Pages are copied
+
+pub there_in : {A B : Type 0} (f : A → B) (xs : List A) (k : ℕ) (x : A) (y : B) → k < length xs → x ≡ get_or xs k x → y ≡ f x → slice_get (map f xs) k ≡ Some y
+there_in f xs k x y within read same = slice_get-map f xs k ∙ ap (option_map f) (slice_get_read xs (length xs) k x refl within read) ∙ ap Some (sym same)
+
+pub one_more : {A B : Type 0} (f : A → B) (all copies : List A) (x y : A) (i : ℕ) → map f copies ≡ take i (map f all) → i < length all → x ≡ get_or all i x → f y ≡ f x → map f (copies ++ y ∷ []) ≡ take (i + 1) (map f all)
+one_more f all copies x y i e within read same =
+    let len = length-map all f in
+    map-append f copies (y ∷ [])
+    ∙ ap (λ xs. xs ++ f y ∷ []) e
+    ∙ ap (λ z. take i (map f all) ++ z ∷ []) (sym (get_or_from_slice_get (map f all) i (f y) (f y) (there_in f all i x (f y) within read same)))
+    ∙ sym (take_more (map f all) i (f y) (omega (arith, len, within)))

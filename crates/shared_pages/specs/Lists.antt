@@ -22,3 +22,9 @@ pub record IsPrepared {T : Type 0} (n len : ℕ) (pages : List (List T)) (next_l
   pub own : IsPaged n len pages
   pub other : IsPaged n next_len next
   pub room : length next ≤ length pages
+
+-- Pages were added that have the size of the others, which changes no element.
+abbrev pub Extends : {T : Type 0} → List (List T) → List (List T) → List (List T) → Type 0
+Extends {T} others old new =
+    (n len m : ℕ) → IsPaged n len old → IsPaged n m others
+    → IsPaged n len new × (elements len new ≡ elements len old)

@@ -1,10 +1,10 @@
 //! Copies of lists that share pages, and lists that are about to show such a copy.
 ghost use Rattle.std.specs.Prelude.{◌≡◌, ℕ, ◌≤◌, IfOk, IfErr, OnOk, length, map};
-ghost use Rattle.shared_pages.specs.Lists.{elements, IsPaged};
+ghost use Rattle.shared_pages.specs.Lists.{Extends};
 
 use crate::list::PagedList;
 use crate::page::Page;
-use std::alloc::AllocError;
+use std::alloc::{AllocError, Global};
 use std::marker::Model;
 use std::sync::Arc;
 
@@ -106,23 +106,41 @@ fn borrow_pages<T: Copy>(
     pages: &mut Vec<Page<T>>,
     copy: &[Arc<Vec<T>>],
 ) -> Result<Vec<Arc<Vec<T>>>, AllocError>
-    ensures paged { (n len m : ℕ) → IsPaged n len pages.old.items
-        → IsPaged n m (map (λ s. s.value.items) copy.now) → IsPaged n len pages.new.items }
-    ensures same { (n len m : ℕ) → IsPaged n len pages.old.items
-        → IsPaged n m (map (λ s. s.value.items) copy.now)
-        → elements len pages.new.items ≡ elements len pages.old.items }
+    ensures extends { Extends (map (λ s. s.value.items) copy.now) pages.old.items
+        pages.new.items }
     ensures room { OnOk result (length copy.now ≤ length pages.new.items) }
     ensures ok { IfOk result (λ next. map (λ s. s.value.items) next.items
         ≡ map (λ s. s.value.items) copy.now) }
 {
+    add_pages(pages, copy)?;
+    clone_pages(*pages.allocator(), copy)
+}
+
+// Adds pages with storage of their own until there are as many as the copy has.
+fn add_pages<T: Copy>(pages: &mut Vec<Page<T>>, copy: &[Arc<Vec<T>>]) -> Result<(), AllocError>
+    ensures extends { Extends (map (λ s. s.value.items) copy.now) pages.old.items
+        pages.new.items }
+    ensures room { OnOk result (length copy.now ≤ length pages.new.items) }
+{
     let alloc = *pages.allocator();
-    let mut next = Vec::with_capacity(alloc, copy.len())?;
-    for k in 0..copy.len() {
-        let shared = &copy[k];
-        if k >= pages.len() {
-            pages.push(Page::new(Vec::from_slice(alloc, shared.as_slice())?))?;
-        }
-        next.push(Arc::try_clone(shared)?)?;
+    for k in pages.len()..copy.len() {
+        let page = Vec::from_slice(alloc, copy[k].as_slice())?;
+        pages.push(Page::new(page))?;
     }
-    Ok(next)
+    Ok(())
+}
+
+// Returns the pages, shared once more.
+fn clone_pages<T: Copy>(
+    alloc: Global,
+    pages: &[Arc<Vec<T>>],
+) -> Result<Vec<Arc<Vec<T>>>, AllocError>
+    ensures { IfOk result (λ copy. map (λ s. s.value.items) copy.items
+        ≡ map (λ s. s.value.items) pages.now) }
+{
+    let mut copy = Vec::with_capacity(alloc, pages.len())?;
+    for page in pages {
+        copy.push(Arc::try_clone(page)?)?;
+    }
+    Ok(copy)
 }

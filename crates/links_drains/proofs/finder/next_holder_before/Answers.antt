@@ -8,8 +8,8 @@ use Rattle.links_drains.proofs.finder.next_holder_before.Goals as goal
 pub loop-at-init : goal.loop-at-init
 loop-at-init c = record { on = omega arith; none = λ r row l k there. absurd (omega (arith, l, k)) }
 
-pub bounds-rows-r : goal.bounds-rows-r
-bounds-rows-r c =
+pub index-requires : goal.index-requires
+index-requires c =
     let next = next_found is_issued_row c.args.rows.now c.args.index.now.issued c.loop-at.at c.in_ok-r.r c.requires.indexed.issued c.in_ok-r.ensures.some in
     let within = slice_get_within c.args.rows.now c.in_ok-r.r next.row next.there in
     within

@@ -3,13 +3,13 @@ use Rattle.std.proofs.lemmas.List.{get_or_read, length-set}
 use Rattle.links_drains.proofs.finder.Finder.link.Goals as goal
 
 pub index-requires : goal.index-requires
-index-requires c = let a = c.requires.room.last in let e = c.args.self.now.last.ok.0 in omega (arith, a, e, c.hash_of-hash.ensures)
+index-requires c = let a = c.requires.room.last in omega (arith, a, c.hash_of-hash.ensures)
 
-pub index_mut-requires : goal.index_mut-requires
-index_mut-requires c = let a = c.requires.room.previous in let e = c.args.self.now.previous.ok.0 in omega (arith, a, e)
+pub set-requires : goal.set-requires
+set-requires c = let a = c.requires.room.previous in omega (arith, a)
 
-pub index_mut-requires-2 : goal.index_mut-requires-2
-index_mut-requires-2 c = let a = c.requires.room.last in let e = c.args.self.now.last.ok.0 in omega (arith, a, e, c.hash_of-hash.ensures)
+pub set-requires-2 : goal.set-requires-2
+set-requires-2 c = let a = c.requires.room.last in omega (arith, a, c.hash_of-hash.ensures)
 
 pub returns-clause-previous : goal.returns-clause-previous
 returns-clause-previous c =
