@@ -116,6 +116,24 @@ impl<T: Copy> Page<T> {
         self.shared = Some(shared);
         Ok(theirs)
     }
+
+    /// Returns a page with the contents of a shared copy, in the storage of `room` if that has the
+    /// same length. Then it copies no elements and allocates nothing.
+    pub fn restore(
+        alloc: Global,
+        shared: &Arc<Vec<T>>,
+        room: Option<Page<T>>,
+    ) -> Result<Page<T>, AllocError>
+        ensures { IfOk result (λ page. page ≡ shared.now.value.items) }
+    {
+        match room {
+            Some(mut page) if page.len() == shared.len() => {
+                page.lend(Arc::try_clone(shared)?);
+                Ok(page)
+            }
+            _ => Ok(Page::new(Vec::from_slice(alloc, shared.as_slice())?)),
+        }
+    }
 }
 
 // Copies shared contents to a page's own storage, if they are what it shows.
