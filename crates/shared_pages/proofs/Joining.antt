@@ -6,7 +6,7 @@ use Rattle.std.proofs.Math.Seq.{take-append-add, take-set-lt}
 use Rattle.std.proofs.Math.Nat.{mul-le-mul_left}
 use Rattle.std.proofs.lemmas.Bool.{cases_lt}
 use Rattle.std.proofs.lemmas.Option.{slice_get-map, slice_get_within, slice_get-get_or, get_or_from_slice_get, slice_get_read}
-use Rattle.shared_pages.specs.Lists.{joined, elements, Extends, IsPaged, IsPrepared}
+use Rattle.shared_pages.specs.Lists.{joined, elements, Extends, IsPaged}
 
 -- Each page has n elements.
 abbrev pub Full : {T : Type 0} → ℕ → List (List T) → Type 0
@@ -232,81 +232,48 @@ extends_page others old new k page e there n len m h o =
     let f = e n len m h o in
     (paged_append n len new page f.0 (o.full k page there), elements-append n len new (page ∷ []) f.0 ∙ f.1)
 
--- ---- Pages are lent, from the last to the first
+-- ---- Pages are lent, one after the other
 
-set_back : {X : Type 0} (old goal : List X) (j : ℕ) (x : X) → j < length old → j < length goal → x ≡ get_or goal j x → set (take (suc j) old ++ drop (suc j) goal) j x ≡ take j old ++ drop j goal
-set_back [] goal j x a b e = absurd (omega (arith, a))
-set_back (o ∷ old) [] j x a b e = absurd (omega (arith, b))
-set_back (o ∷ old) (p ∷ goal) zero x a b e = ap (λ y. y ∷ goal) e
-set_back (o ∷ old) (p ∷ goal) (suc j) x a b e = ap (λ ys. o ∷ ys) (set_back old goal j x (omega (arith, a)) (omega (arith, b)) e)
+set_next : {X : Type 0} (next own : List X) (k : ℕ) (x : X) → k < length own → slice_get next k ≡ Some x → set (take k next ++ drop k own) k x ≡ take (suc k) next ++ drop (suc k) own
+set_next [] own k x within there = absurd cc
+set_next (y ∷ next) [] k x within there = absurd (omega (arith, within))
+set_next (y ∷ next) (o ∷ own) zero x within there = let same : y ≡ x = cc in ap (λ z. z ∷ own) (sym same)
+set_next (y ∷ next) (o ∷ own) (suc k) x within there = ap (λ zs. y ∷ zs) (set_next next own k x (omega (arith, within)) there)
 
--- What remains after the last element of a prefix was taken, and that element.
-pub popped : {X : Type 0} (all rest : List X) (x : X) (k : ℕ) → length rest ≡ k → rest ++ x ∷ [] ≡ take (suc k) all → (rest ≡ take k all) × (slice_get all k ≡ Some x)
-popped [] [] x k n e = absurd cc
-popped [] (r ∷ rest) x k n e = absurd cc
-popped (a ∷ all) [] x zero n e = (refl, let same : x ≡ a = cc in ap Some (sym same))
-popped (a ∷ all) [] x (suc k) n e = absurd (omega (arith, n))
-popped (a ∷ all) (r ∷ rest) x zero n e = absurd (omega (arith, n))
-popped (a ∷ all) (r ∷ rest) x (suc k) n e =
-    let same : r ≡ a = cc in
-    let tail : rest ++ x ∷ [] ≡ take (suc k) all = cc in
-    let p = popped all rest x k (omega (arith, n)) tail in
-    (ap (λ y. y ∷ rest) same ∙ ap (λ ys. a ∷ ys) p.0, p.1)
+-- The pages after the first k were lent.
+abbrev pub lent_to : {X : Type 0} → ℕ → List X → List X → List X
+lent_to k next own = take k next ++ drop k own
 
--- The pages as some of them are lent.
-abbrev pub lent_from : {X : Type 0} → ℕ → List X → List X → List X
-lent_from k own next = take k own ++ drop k (next ++ drop (length next) own)
+pub lent_none : {X : Type 0} (next own : List X) → own ≡ lent_to 0 next own
+lent_none [] [] = refl
+lent_none [] (o ∷ own) = refl
+lent_none (y ∷ next) [] = refl
+lent_none (y ∷ next) (o ∷ own) = refl
 
--- One more page is lent.
-pub lent_page : {X : Type 0} (pages own next : List X) (n k : ℕ) (x : X) → pages ≡ lent_from n own next → n ≡ suc k → length next ≤ length own → slice_get next k ≡ Some x → set pages k x ≡ lent_from k own next
-lent_page pages own next n k x e l room there =
-    let within = slice_get_within next k x there in
-    let goal = length-append next (drop (length next) own) in
-    rw (e, l) (set_back own (next ++ drop (length next) own) k x (omega (arith, within, room)) (omega (arith, within, goal)) (sym (get_or_append_left next (drop (length next) own) x k within ∙ get_or_from_slice_get next k x x there)))
+pub lent_page : {X : Type 0} (pages next own : List X) (k : ℕ) (x : X) → pages ≡ lent_to k next own → k < length own → slice_get next k ≡ Some x → set pages k x ≡ lent_to (k + 1) next own
+lent_page pages next own k x e within there = rw e (set_next next own k x within there)
 
-pub lent_length : {X : Type 0} (own next : List X) (j : ℕ) → length next ≤ length own → j ≤ length own → length (lent_from j own next) ≡ length own
-lent_length own next j room within =
-    let a = length-append (take j own) (drop j (next ++ drop (length next) own)) in
-    let b = length-take-le j own within in
-    let c = length-drop j (next ++ drop (length next) own) in
-    let d = length-append next (drop (length next) own) in
-    let e = length-drop (length next) own in
-    omega (arith, a, b, c, d, e, room, within)
+-- There are as many pages as before.
+pub lent_length : {X : Type 0} (next own : List X) (k : ℕ) → k ≤ length next → k ≤ length own → length (lent_to k next own) ≡ length own
+lent_length next own k a b =
+    let c = length-append (take k next) (drop k own) in
+    let d = length-take-le k next a in
+    let e = length-drop k own in
+    omega (arith, b, c, d, e)
 
--- It has the size of the page that it replaces.
-pub lent_size : {T : Type 0} (pages own next : List (List T)) (n len m j k : ℕ) (page shown : List T) → pages ≡ lent_from j own next → IsPrepared n len own m next → j ≤ length own → k < j → page ≡ get_or pages k page → slice_get next k ≡ Some shown → length page ≡ length shown
-lent_size pages own next n len m j k page shown e h most less read there =
-    let full : Full n pages = rw e (full_both n (drop j (next ++ drop (length next) own)) (take j own) (full_drop n j (next ++ drop (length next) own) (full_both n (drop (length next) own) next (full_drop n (length next) own h.own.full) h.other.full)) (full_take n own j h.own.full)) in
-    let all = ap length e ∙ lent_length own next j h.room most in
-    full k page (slice_get_read pages (length pages) k page refl (omega (arith, all, most, less)) read) ∙ sym (h.other.full k shown there)
+-- Each page has the size of the one that replaces it.
+pub lent_size : {T : Type 0} (pages next own : List (List T)) (n len m k : ℕ) (page shown : List T) → pages ≡ lent_to k next own → IsPaged n len own → IsPaged n m next → k < length next → k < length own → page ≡ get_or pages k page
+    → slice_get next k ≡ Some shown → length page ≡ length shown
+lent_size pages next own n len m k page shown e h o a b read there =
+    let full : Full n pages = rw e (full_both n (drop k own) (take k next) (full_drop n k own h.full) (full_take n next k o.full)) in
+    let all = ap length e ∙ lent_length next own k (omega (arith, a)) (omega (arith, b)) in
+    full k page (slice_get_read pages (length pages) k page refl (omega (arith, all, b)) read) ∙ sym (o.full k shown there)
 
--- All pages are lent.
-pub lent_all : {X : Type 0} (pages own next : List X) (n : ℕ) → pages ≡ lent_from n own next → n ≡ 0 → pages ≡ next ++ drop (length next) own
-lent_all pages own next n e l = e ∙ ap (λ k. lent_from k own next) l ∙ none own (next ++ drop (length next) own)
-  where
-    none : {X : Type 0} (xs ys : List X) → take 0 xs ++ drop 0 ys ≡ ys
-    none [] [] = refl
-    none [] (y ∷ ys) = refl
-    none (x ∷ xs) [] = refl
-    none (x ∷ xs) (y ∷ ys) = refl
-
-pub lent_none : {X : Type 0} (own next : List X) → length next ≤ length own → own ≡ lent_from (length next) own next
-lent_none own next room = sym (ap (λ xs. take (length next) own ++ xs) (after next (drop (length next) own)) ∙ take-append-drop (length next) own)
-  where
-    after : {X : Type 0} (xs ys : List X) → drop (length xs) (xs ++ ys) ≡ ys
-    after [] [] = refl
-    after [] (y ∷ ys) = refl
-    after (x ∷ xs) ys = after xs ys
+-- All pages were lent.
+pub lent_all : {X : Type 0} (pages next own : List X) (k : ℕ) → pages ≡ lent_to k next own → k ≡ length next → pages ≡ next ++ drop (length next) own
+lent_all pages next own k e same = rw same at e ∙ ap (λ xs. xs ++ drop (length next) own) (take_all (length next) next (omega arith))
 
 -- ---- Pages are copied
 
 pub there_in : {A B : Type 0} (f : A → B) (xs : List A) (k : ℕ) (x : A) (y : B) → k < length xs → x ≡ get_or xs k x → y ≡ f x → slice_get (map f xs) k ≡ Some y
 there_in f xs k x y within read same = slice_get-map f xs k ∙ ap (option_map f) (slice_get_read xs (length xs) k x refl within read) ∙ ap Some (sym same)
-
-pub one_more : {A B : Type 0} (f : A → B) (all copies : List A) (x y : A) (i : ℕ) → map f copies ≡ take i (map f all) → i < length all → x ≡ get_or all i x → f y ≡ f x → map f (copies ++ y ∷ []) ≡ take (i + 1) (map f all)
-one_more f all copies x y i e within read same =
-    let len = length-map all f in
-    map-append f copies (y ∷ [])
-    ∙ ap (λ xs. xs ++ f y ∷ []) e
-    ∙ ap (λ z. take i (map f all) ++ z ∷ []) (sym (get_or_from_slice_get (map f all) i (f y) (f y) (there_in f all i x (f y) within read same)))
-    ∙ sym (take_more (map f all) i (f y) (omega (arith, len, within)))

@@ -7,4 +7,4 @@ pub mod shared;
 
 pub use list::PagedList;
 pub use page::Page;
-pub use shared::{Prepared, SharedList};
+pub use shared::SharedList;

@@ -1,10 +1,10 @@
-//! Copies of lists that share pages, and lists that are about to show such a copy.
-ghost use Rattle.std.specs.Prelude.{◌≡◌, ℕ, ◌≤◌, IfOk, IfErr, OnOk, length, map};
+//! Copies of lists that share pages.
+ghost use Rattle.std.specs.Prelude.{◌≡◌, ℕ, ◌≤◌, IfOk, OnOk, length, map};
 ghost use Rattle.shared_pages.specs.Lists.{Extends};
 
 use crate::list::PagedList;
 use crate::page::Page;
-use std::alloc::{AllocError, Global};
+use std::alloc::AllocError;
 use std::marker::Model;
 use std::sync::Arc;
 
@@ -26,94 +26,23 @@ impl<T, const N: usize> Model for SharedList<T, N> {
     ghost invariant = { λ a. IsPaged N a.len (map (λ s. s.value.items) a.pages.items) };
 }
 
-/// A list for which everything is ready to show another's copy. Contracts see it as both lists of
-/// elements: its own, and the copy's.
-#[derive(Drop)]
-pub struct Prepared<T, const N: usize> {
-    pages: Vec<Page<T>>,
-    len: usize,
-    next: Vec<Arc<Vec<T>>>,
-    next_len: usize,
-}
-
-impl<T, const N: usize> Model for Prepared<T, N> {
-    ghost use Rattle.std.specs.Prelude.{List, map};
-    ghost use Rattle.shared_pages.specs.Lists.{elements, IsPrepared};
-
-    ghost Value = { List T × List T };
-
-    ghost view = { λ a. (elements a.len a.pages.items, elements a.next_len (map (λ s. s.value.items) a.next.items)) };
-
-    ghost invariant = { λ a. IsPrepared N a.len a.pages.items a.next_len (map (λ s. s.value.items) a.next.items) };
-}
-
-impl<T: Copy, const N: usize> PagedList<T, N> {
-    /// Makes everything ready to show a copy. If an allocation fails, returns the list unchanged.
-    pub fn prepare(self, copy: &SharedList<T, N>) -> Result<Prepared<T, N>, PagedList<T, N>>
-        ensures ok { IfOk result (λ prepared. prepared ≡ (self, copy.now)) }
-        ensures err { IfErr result (λ list. list ≡ self) }
+impl<T: Copy, const N: usize> SharedList<T, N> {
+    /// Returns a list that shows the copy, in the storage of another list. Allocates only pages
+    /// that the other list lacks, and copies no other page.
+    pub fn restore(&self, room: PagedList<T, N>) -> Result<PagedList<T, N>, AllocError>
+        ensures { IfOk result (λ list. list ≡ self.now) }
     {
-        let PagedList { mut pages, len } = self;
-        match borrow_pages(&mut pages, &copy.pages) {
-            Ok(next) => Ok(Prepared {
-                pages,
-                len,
-                next,
-                next_len: copy.len,
-            }),
-            Err(_) => Err(PagedList { pages, len }),
+        let PagedList { mut pages, len: _ } = room;
+        add_pages(&mut pages, &self.pages)?;
+        for k in 0..self.pages.len() {
+            let page = &mut pages[k];
+            page.lend(Arc::try_clone(&self.pages[k])?);
         }
-    }
-}
-
-impl<T: Copy, const N: usize> Prepared<T, N> {
-    /// Returns the list as it shows the copy. Allocates nothing.
-    pub fn accept(self) -> PagedList<T, N>
-        ensures { result ≡ self.1 }
-    {
-        let Prepared {
-            mut pages,
-            len: _,
-            mut next,
-            next_len,
-        } = self;
-        while let Some(shared) = next.pop() {
-            let page = &mut pages[next.len()];
-            page.lend(shared);
-        }
-        PagedList {
+        Ok(PagedList {
             pages,
-            len: next_len,
-        }
+            len: self.len,
+        })
     }
-
-    /// Returns the list unchanged. Allocates nothing.
-    pub fn discard(self) -> PagedList<T, N>
-        ensures { result ≡ self.0 }
-    {
-        let Prepared {
-            pages,
-            len,
-            next: _,
-            next_len: _,
-        } = self;
-        PagedList { pages, len }
-    }
-}
-
-// Adds pages until there are as many as the copy has, and returns the copy's, shared once more.
-fn borrow_pages<T: Copy>(
-    pages: &mut Vec<Page<T>>,
-    copy: &[Arc<Vec<T>>],
-) -> Result<Vec<Arc<Vec<T>>>, AllocError>
-    ensures extends { Extends (map (λ s. s.value.items) copy.now) pages.old.items
-        pages.new.items }
-    ensures room { OnOk result (length copy.now ≤ length pages.new.items) }
-    ensures ok { IfOk result (λ next. map (λ s. s.value.items) next.items
-        ≡ map (λ s. s.value.items) copy.now) }
-{
-    add_pages(pages, copy)?;
-    clone_pages(*pages.allocator(), copy)
 }
 
 // Adds pages with storage of their own until there are as many as the copy has.
@@ -128,19 +57,4 @@ fn add_pages<T: Copy>(pages: &mut Vec<Page<T>>, copy: &[Arc<Vec<T>>]) -> Result<
         pages.push(Page::new(page))?;
     }
     Ok(())
-}
-
-// Returns the pages, shared once more.
-fn clone_pages<T: Copy>(
-    alloc: Global,
-    pages: &[Arc<Vec<T>>],
-) -> Result<Vec<Arc<Vec<T>>>, AllocError>
-    ensures { IfOk result (λ copy. map (λ s. s.value.items) copy.items
-        ≡ map (λ s. s.value.items) pages.now) }
-{
-    let mut copy = Vec::with_capacity(alloc, pages.len())?;
-    for page in pages {
-        copy.push(Arc::try_clone(page)?)?;
-    }
-    Ok(copy)
 }

@@ -33,18 +33,18 @@ loop-i-preserved c =
     let row = row_in_batch c.args.rows.now c.args.first c.loop-i.i c.index-row.result.now c.index-row.ensures in
     let fails = c.index-chain_fails.ensures ∙ ap (λ (x : Row). get_or c.in_ok-failing.failing.items (x.unit - c.args.first) c.index-chain_fails.result.now) row in
     elim c.match-result_at_once.branch [
-  | in-Some+in_ok-push w ↦
-      let fits : FitsSigned w32 w.in-Some.res = search rules in
-      ap (λ v. v.items) w.direct-is ∙ w.in_ok-push.ensures.items
-      ∙ ap (λ z. c.loop-i.direct.items ++ (c.args.first + c.loop-i.i, z) ∷ []) (to_z-of_z w32 w.in-Some.res fits)
-      ∙ ap (λ es. es ++ (c.args.first + c.loop-i.i, w.in-Some.res) ∷ []) c.loop-i.invariant
-      ∙ sym (ends_more c.args.world.now c.args.first c.args.entries.now (drop c.args.first c.args.rows.now) c.loop-i.i c.index-row.result.now c.in_ok-failing.failing.items _ c.index-chain_fails.result.now c.result_at_once.result (Some w.in-Some.res) c.requires.batch (omega (arith, n, c.loop-i-test.true))
-      (λ u l. c.in_ok-failing.ensures u (omega (arith, l, n))) fails (rw (← c.error_at.ensures) c.result_at_once.ensures) w.in-Some.is)
-  | in_default w ↦
-      ap (λ v. v.items) w.direct-is ∙ c.loop-i.invariant ∙ sym (append-nil _)
-      ∙ sym (ends_more c.args.world.now c.args.first c.args.entries.now (drop c.args.first c.args.rows.now) c.loop-i.i c.index-row.result.now c.in_ok-failing.failing.items _ c.index-chain_fails.result.now c.result_at_once.result _ c.requires.batch (omega (arith, n, c.loop-i-test.true))
-      (λ u l. c.in_ok-failing.ensures u (omega (arith, l, n))) fails (rw (← c.error_at.ensures) c.result_at_once.ensures) w.in_default.is)
-]
+      | in-Some+in_ok-push w ↦
+          let fits : FitsSigned w32 w.in-Some.res = search rules in
+          ap (λ v. v.items) w.direct-is ∙ w.in_ok-push.ensures.items
+          ∙ ap (λ z. c.loop-i.direct.items ++ (c.args.first + c.loop-i.i, z) ∷ []) (to_z-of_z w32 w.in-Some.res fits)
+          ∙ ap (λ es. es ++ (c.args.first + c.loop-i.i, w.in-Some.res) ∷ []) c.loop-i.invariant
+          ∙ sym (ends_more c.args.world.now c.args.first c.args.entries.now (drop c.args.first c.args.rows.now) c.loop-i.i c.index-row.result.now c.in_ok-failing.failing.items _ c.index-chain_fails.result.now c.result_at_once.result (Some w.in-Some.res) c.requires.batch (omega (arith, n, c.loop-i-test.true))
+          (λ u l. c.in_ok-failing.ensures u (omega (arith, l, n))) fails (rw (← c.error_at.ensures) c.result_at_once.ensures) w.in-Some.is)
+      | in_default w ↦
+          ap (λ v. v.items) w.direct-is ∙ c.loop-i.invariant ∙ sym (append-nil _)
+          ∙ sym (ends_more c.args.world.now c.args.first c.args.entries.now (drop c.args.first c.args.rows.now) c.loop-i.i c.index-row.result.now c.in_ok-failing.failing.items _ c.index-chain_fails.result.now c.result_at_once.result _ c.requires.batch (omega (arith, n, c.loop-i-test.true))
+          (λ u l. c.in_ok-failing.ensures u (omega (arith, l, n))) fails (rw (← c.error_at.ensures) c.result_at_once.ensures) w.in_default.is)
+    ]
 
 pub returns : goal.returns
 returns c =
