@@ -40,7 +40,7 @@ many w first es rows b = ap length b ∙ length-rows_of w first es
 
 -- A row at the end of a table, in the batch that the table ends with.
 pub row_in_batch : (rows : List Row) (first i : ℕ) (row : Row) → row ≡ get_or rows (first + i) row → row ≡ get_or (drop first rows) i row
-row_in_batch rows first i row is = is ∙ sym (get_or-drop first i rows row)
+row_in_batch rows first i row is = is ∙ sym (get_or-drop first rows i row)
 
 pub there_in_batch : (w : WorldState) (first : ℕ) (es : List Sqe) (rows : List Row) (i : ℕ) → drop first rows ≡ rows_of w first es → i < length es → first + i < length rows
 there_in_batch w first es rows i b h = let n = many w first es (drop first rows) b in let l = length-drop first rows in omega (arith, n, l, h)

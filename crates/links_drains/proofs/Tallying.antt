@@ -35,14 +35,17 @@ next_counted rows n i row fd before now h is most e t =
     let a = cut rows (i + 1) fd in
     let all = cut rows n fd in
     let b = one_more rows i row fd h in
-    let c = ap (λ x. cond (holds fd x) 1 0) (sym is) ∙ ap (λ y. cond y 1 0) t in
+    let by_row : Row → ℕ = λ x. cond (holds fd x) 1 0 in
+    let by_test : Bool → ℕ = λ y. cond y 1 0 in
+    let c = ap by_row (sym is) ∙ ap by_test t in
     omega (arith, a, all, b, c, most, e)
 
 pub next_gone : (rows : List Row) (n i : ℕ) (row : Row) (fd before now later : ℕ) → i < length rows → row ≡ get_or rows i row → before + holders_of (take n rows) fd ≡ now + holders_of (take i rows) fd
     → now ≡ later + cond (holds fd row) 1 0 → before + holders_of (take n rows) fd ≡ later + holders_of (take (i + 1) rows) fd
 next_gone rows n i row fd before now later h is e g =
     let b = one_more rows i row fd h in
-    let c = ap (λ x. cond (holds fd x) 1 0) is in
+    let by_row : Row → ℕ = λ x. cond (holds fd x) 1 0 in
+    let c = ap by_row is in
     omega (arith, b, c, e, g)
 
 -- All rows from a number on were removed.

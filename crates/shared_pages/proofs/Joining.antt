@@ -1,8 +1,9 @@
 -- Lists in pages of one size: where an element is, and what changes one.
-use Rattle.std.proofs.Common.{◌≡◌, ℕ, zero, suc, refl, sym, ◌∙◌, ap, List, [], ◌∷◌, ◌++◌, length, map, take, drop, set, get_or, min, ◌+◌, ◌-◌, ◌*◌, ◌/◌, ◌%◌, ◌<◌, ◌≤◌, ◌⊎◌, inl, inr, arith}
+use Rattle.std.proofs.Common.{◌≡◌, ℕ, zero, suc, refl, sym, ◌∙◌, ap, List, [], ◌∷◌, ◌++◌, length, map, take, drop, set, get_or, min, ◌+◌, ◌-◌, ◌*◌, ◌/◌, ◌%◌, ◌<◌, ◌≤◌, ◌⊎◌, inl, inr, add-one, arith}
 use Rattle.std.specs.Prelude.{Some, option_map, slice_get}
-use Rattle.std.proofs.lemmas.List.{get_or_append_left, get_or-append-add, set-append_left, set-append_right, take-append-le, take-take, length-take-le, length-drop, length-append, take-append-drop, length-set, get_or-take, take_all, get_or-set_same, get_or-set_other, append_assoc, take_more, take_more_set, map-append, length-map}
-use Rattle.std.proofs.Math.Seq.{take-append-add, take-set-lt}
+use Rattle.std.proofs.lemmas.List.{get_or_append_left, get_or-append-add, set-append_left, set-append_right, take-append-le, take-take, length-take-le, length-drop, length-append, take-append-drop, take_at, length-set, get_or-take, take_all, get_or-set_same, get_or-set_other, append_assoc, take_more, take_more_set, map-append, length-map}
+use Rattle.std.proofs.Math.Seq.{take-add, take-append-add, take-set-lt}
+use Rattle.std.proofs.lemmas.Slice.{drop-append-drop}
 use Rattle.std.proofs.Math.Nat.{mul-le-mul_left}
 use Rattle.std.proofs.lemmas.Bool.{cases_lt}
 use Rattle.std.proofs.lemmas.Option.{slice_get-map, slice_get_within, slice_get-get_or, get_or_from_slice_get, slice_get_read}
@@ -251,7 +252,7 @@ lent_none (y ∷ next) [] = refl
 lent_none (y ∷ next) (o ∷ own) = refl
 
 pub lent_page : {X : Type 0} (pages next own : List X) (k : ℕ) (x : X) → pages ≡ lent_to k next own → k < length own → slice_get next k ≡ Some x → set pages k x ≡ lent_to (k + 1) next own
-lent_page pages next own k x e within there = rw e (set_next next own k x within there)
+lent_page pages next own k x e within there = rw (e, add-one) (set_next next own k x within there)
 
 -- There are as many pages as before.
 pub lent_length : {X : Type 0} (next own : List X) (k : ℕ) → k ≤ length next → k ≤ length own → length (lent_to k next own) ≡ length own
@@ -277,3 +278,19 @@ lent_all pages next own k e same = rw same at e ∙ ap (λ xs. xs ++ drop (lengt
 
 pub there_in : {A B : Type 0} (f : A → B) (xs : List A) (k : ℕ) (x : A) (y : B) → k < length xs → x ≡ get_or xs k x → y ≡ f x → slice_get (map f xs) k ≡ Some y
 there_in f xs k x y within read same = slice_get-map f xs k ∙ ap (option_map f) (slice_get_read xs (length xs) k x refl within read) ∙ ap Some (sym same)
+
+-- One more piece is copied over the elements.
+pub overwritten : {X : Type 0} (old own others new : List X) (at n : ℕ) → own ≡ take at others ++ drop at old → at + n ≤ length others
+    → new ≡ take at own ++ (take (at + n - at) (drop at others) ++ drop (at + length (take (at + n - at) (drop at others))) own) → new ≡ take (at + n) others ++ drop (at + n) old
+overwritten old own others new at n e h g =
+    let less : at + n - at ≡ n = omega arith in
+    let one = length-take-le at others (omega (arith, h)) in
+    let rest = length-drop at others in
+    let two = length-take-le n (drop at others) (omega (arith, h, rest)) in
+    let front = ap (take at) e ∙ take_at (take at others) (drop at old) at one in
+    let back = ap (drop (at + n)) e ∙ drop-append-drop at old (take at others) (at + n) (omega arith) one in
+    rw (less, two) at g
+    ∙ ap (λ xs. xs ++ (take n (drop at others) ++ drop (at + n) own)) front
+    ∙ ap (λ xs. take at others ++ (take n (drop at others) ++ xs)) back
+    ∙ sym (append_assoc (take at others) (take n (drop at others)) (drop (at + n) old))
+    ∙ ap (λ xs. xs ++ drop (at + n) old) (sym (take-add at n others))

@@ -3,6 +3,7 @@
 
 pub mod list;
 pub mod page;
+mod pieces;
 pub mod shared;
 
 pub use list::PagedList;

@@ -115,7 +115,7 @@ impl<T: Copy, const N: usize> PagedList<T, N> {
     {
         let mut pages = Vec::with_capacity(alloc, self.pages.len())?;
         for page in &self.pages {
-            pages.push(Page::new(Vec::from_slice(alloc, page.as_slice())?))?;
+            pages.push(page.copy(alloc)?)?;
         }
         Ok(PagedList {
             pages,

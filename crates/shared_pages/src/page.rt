@@ -2,6 +2,7 @@
 ghost use Rattle.std.specs.Prelude.{◌≡◌, ◌<◌, ◌≤◌, ◌+◌, ◌++◌, length, take, drop, slice_set, IfOk, option_map};
 ghost use Rattle.shared_pages.specs.Pages.{shown, IsWhole};
 
+use crate::pieces::{copied, copy_over};
 use std::alloc::{AllocError, Global};
 use std::marker::Model;
 use std::sync::Arc;
@@ -96,7 +97,7 @@ impl<T: Copy> Page<T> {
     pub fn copy(&self, alloc: Global) -> Result<Page<T>, AllocError>
         ensures { IfOk result (λ page. page ≡ self.now) }
     {
-        Ok(Page::new(Vec::from_slice(alloc, self.as_slice())?))
+        Ok(Page::new(copied(alloc, self.as_slice())?))
     }
 
     /// Returns a copy that shares the contents. Copies them only if they were written since the
@@ -108,8 +109,8 @@ impl<T: Copy> Page<T> {
         if let Some(shared) = &self.shared {
             return Arc::try_clone(shared);
         }
-        let copied = Vec::from_slice(alloc, &self.own)?;
-        let Ok(shared) = Arc::new(alloc, copied) else {
+        let copy = copied(alloc, &self.own)?;
+        let Ok(shared) = Arc::new(alloc, copy) else {
             return Err(AllocError);
         };
         let theirs = Arc::try_clone(&shared)?;
@@ -131,7 +132,7 @@ impl<T: Copy> Page<T> {
                 page.lend(Arc::try_clone(shared)?);
                 Ok(page)
             }
-            _ => Ok(Page::new(Vec::from_slice(alloc, shared.as_slice())?)),
+            _ => Ok(Page::new(copied(alloc, shared.as_slice())?)),
         }
     }
 }
@@ -145,6 +146,6 @@ fn fill<T: Copy>(own: &mut Vec<T>, is_lent: bool, shared: &Option<Arc<Vec<T>>>)
         return;
     }
     if let Some(shared) = shared {
-        own.copy_from_slice(shared.as_slice());
+        copy_over(own, shared.as_slice());
     }
 }

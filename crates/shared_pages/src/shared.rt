@@ -4,6 +4,7 @@ ghost use Rattle.shared_pages.specs.Lists.{Extends};
 
 use crate::list::PagedList;
 use crate::page::Page;
+use crate::pieces::copied;
 use std::alloc::AllocError;
 use std::marker::Model;
 use std::sync::Arc;
@@ -53,7 +54,7 @@ fn add_pages<T: Copy>(pages: &mut Vec<Page<T>>, copy: &[Arc<Vec<T>>]) -> Result<
 {
     let alloc = *pages.allocator();
     for k in pages.len()..copy.len() {
-        let page = Vec::from_slice(alloc, copy[k].as_slice())?;
+        let page = copied(alloc, copy[k].as_slice())?;
         pages.push(Page::new(page))?;
     }
     Ok(())

@@ -10,7 +10,7 @@ use Rattle.links_drains.proofs.failing.direct_ends.Goals as goal
 use Rattle.links_drains.proofs.failing.direct_ends.Goals.{in-Some+in_ok-push, in_default}
 
 pub index-row-requires : goal.index-row-requires
-index-row-requires c = there_in_batch c.args.world.now c.args.first c.args.entries.now c.args.rows.now c.loop-i.i c.requires.batch c.loop-i-test.true
+index-row-requires c = (omega arith, there_in_batch c.args.world.now c.args.first c.args.entries.now c.args.rows.now c.loop-i.i c.requires.batch c.loop-i-test.true)
 
 pub overflow_sub-row : goal.overflow_sub-row
 overflow_sub-row c =

@@ -9,7 +9,7 @@ pub loop-i-init : goal.loop-i-init
 loop-i-init c = failing_none c.args.world.now c.args.entries.now _ (length c.args.entries.now) refl (c.in_ok-failing.ensures.items_if_clones_equal (λ y e. e))
 
 pub index-row-requires : goal.index-row-requires
-index-row-requires c = there_in_batch c.args.world.now c.args.first c.args.entries.now c.args.rows.now c.loop-i.i c.requires.batch c.loop-i-test.true
+index-row-requires c = (omega arith, there_in_batch c.args.world.now c.args.first c.args.entries.now c.args.rows.now c.loop-i.i c.requires.batch c.loop-i-test.true)
 
 pub overflow_sub-row : goal.overflow_sub-row
 overflow_sub-row c =

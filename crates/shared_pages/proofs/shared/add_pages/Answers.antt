@@ -14,7 +14,7 @@ returns-in_err-push-clause-extends g c = rw c.in_err-push.ensures.items c.loop-k
 
 pub loop-k-preserved : goal.loop-k-preserved
 loop-k-preserved g c =
-    let same = c.new.ensures ∙ c.in_ok-page.ensures.items ∙ c.as_slice.ensures.value ∙ ap (λ v. v.items) c.deref.ensures in
+    let same = c.new.ensures ∙ c.in_ok-page.ensures ∙ c.as_slice.ensures.value ∙ ap (λ v. v.items) c.deref.ensures in
     let there = there_in (λ s. s.value.items) c.args.copy.now c.loop-k.k c.index-copy-k.result c.new.result c.loop-k-test.true c.index-copy-k.is same in
     let more = ap length c.in_ok-push.ensures.items ∙ length-append c.loop-k.pages.items (c.new.result ∷ []) in
     let count = c.loop-k.invariant.count in

@@ -1,4 +1,4 @@
-use Rattle.std.proofs.Common.{◌≡◌, length, arith}
+use Rattle.std.proofs.Common.{◌≡◌, ◌<◌, length, arith}
 use Rattle.links_drains.proofs.Indexing.{indexed_left, indexed_none_left}
 use Rattle.links_drains.proofs.index.Index.cut.Goals as goal
 

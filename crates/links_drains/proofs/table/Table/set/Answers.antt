@@ -10,7 +10,7 @@ use Rattle.links_drains.proofs.table.Table.set.Goals as goal
 pub index-requires : goal.index-requires
 index-requires c =
     let fixed = rw (← c.self.view_is) at c.requires in
-    fixed_within c.self.inside.rows c.args.r c.args.after fixed
+    (omega arith, fixed_within c.self.inside.rows c.args.r c.args.after fixed)
 
 pub take_off-requires : goal.take_off-requires
 take_off-requires c =
@@ -48,9 +48,9 @@ pub invariant_of-self : goal.invariant_of-self
 invariant_of-self c =
     let fixed = rw (← c.self.view_is) at c.requires in
     let within = fixed_within c.self.inside.rows c.args.r c.args.after fixed in
-    record {
+    rw c.set.ensures (record {
       tallied = tallied_set c.self.inside.rows c.self.inside.held c.take_off.new.held c.count.new.held c.args.r c.index.result.now c.args.after c.self.invariant.tallied
           (slice_get_read c.self.inside.rows (length c.self.inside.rows) c.args.r c.index.result.now refl within c.index.ensures) c.take_off.ensures c.count.ensures;
       indexed = rw c.set.ensures at c.update.ensures;
       findable = let f = fixed_at c.self.inside.rows c.args.r c.args.after fixed in findable_set c.self.inside.rows c.args.r f.before c.args.after c.self.inside.finder c.mark.new.self c.self.invariant.findable f.there f.same c.mark.ensures;
-    }
+    })
