@@ -51,13 +51,16 @@ impl<T: Copy> Page<T> {
     }
 
     /// Returns the elements.
+    #[inline]
     pub fn as_slice(&self) -> &[T]
         ensures { result.now ≡ self.now }
     {
-        match &self.shared {
-            Some(shared) if self.is_lent => shared.as_slice(),
-            _ => &self.own,
+        if self.is_lent {
+            if let Some(shared) = &self.shared {
+                return shared.as_slice();
+            }
         }
+        &self.own
     }
 
     /// Replaces the contents with a shared copy. Allocates nothing.
@@ -70,6 +73,7 @@ impl<T: Copy> Page<T> {
     }
 
     /// Assigns an element. Allocates nothing.
+    #[inline]
     pub fn set(&mut self, at: usize, element: T)
         requires { at < length self.old }
         ensures { self.new ≡ slice_set self.old at element }
