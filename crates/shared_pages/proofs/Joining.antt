@@ -1,12 +1,12 @@
 -- Lists in pages of one size: where an element is, and what changes one.
-use Rattle.std.proofs.Common.{◌≡◌, ℕ, zero, suc, refl, sym, ◌∙◌, ap, List, [], ◌∷◌, ◌++◌, length, map, take, drop, set, get_or, min, ◌+◌, ◌-◌, ◌*◌, ◌/◌, ◌%◌, ◌<◌, ◌≤◌, ◌⊎◌, inl, inr, add-one, arith}
+use Rattle.std.proofs.Common.{◌≡◌, ℕ, zero, suc, refl, sym, ◌∙◌, ap, List, [], ◌∷◌, ◌++◌, length, map, take, drop, set, get_or, ◌+◌, ◌-◌, ◌*◌, ◌/◌, ◌%◌, ◌<◌, ◌≤◌, inl, inr, add-one, arith}
 use Rattle.std.specs.Prelude.{Some, option_map, slice_get}
-use Rattle.std.proofs.lemmas.List.{get_or_append_left, get_or-append-add, set-append_left, set-append_right, take-append-le, take-take, length-take-le, length-drop, length-append, take-append-drop, take_at, length-set, get_or-take, take_all, get_or-set_same, get_or-set_other, append_assoc, take_more, take_more_set, map-append, length-map}
+use Rattle.std.proofs.lemmas.List.{get_or_append_left, get_or-append-add, set-append_left, set-append_right, take-append-le, take-take, length-take-le, length-drop, length-append, take_at, length-set, get_or-take, take_all, append_assoc, take_more_set}
 use Rattle.std.proofs.Math.Seq.{take-add, take-append-add, take-set-lt}
 use Rattle.std.proofs.lemmas.Slice.{drop-append-drop}
 use Rattle.std.proofs.Math.Nat.{mul-le-mul_left}
 use Rattle.std.proofs.lemmas.Bool.{cases_lt}
-use Rattle.std.proofs.lemmas.Option.{slice_get-map, slice_get_within, slice_get-get_or, get_or_from_slice_get, slice_get_read}
+use Rattle.std.proofs.lemmas.Option.{slice_get-map, slice_get_read}
 use Rattle.shared_pages.specs.Lists.{joined, elements, Extends, IsPaged}
 
 -- Each page has n elements.

@@ -1,4 +1,4 @@
-use Rattle.std.proofs.Common.{◌∙◌, ap, take}
+use Rattle.std.proofs.Common.{◌∙◌, ap}
 use Rattle.shared_pages.specs.Lists.{elements}
 use Rattle.shared_pages.proofs.Joining.{elements-take}
 use Rattle.shared_pages.proofs.list.PagedList.share.Goals as goal
