@@ -256,7 +256,7 @@ impl Table {
         ensures others { notes.old.others ≤ notes.new.others + 1 }
     {
         let r = self.rows.len();
-        self.index.make_room(&self.rows)?;
+        self.index.make_room(&self.rows, &row)?;
         self.finder.make_room(&self.rows)?;
         notes.note_row(r as u32, None)?;
         self.rows.push(row)?;

@@ -3,7 +3,7 @@ use Rattle.std.proofs.lemmas.Option.{get_or_from_slice_get, slice_get_within}
 use Rattle.entries.specs.declared.row.Row.{Row}
 use Rattle.links_drains.specs.Links.{has_drain_flag}
 use Rattle.links_drains.specs.Units.{is_issued_row, is_open}
-use Rattle.links_drains.proofs.Indexing.{tied, tied_thresholds, updated_index}
+use Rattle.links_drains.proofs.Indexing.{counted_room, tied, tied_thresholds, updated_index}
 use Rattle.links_drains.proofs.index.Index.update.Goals as goal
 
 pub is_barrier-blocks-requires-clause-flagged : goal.is_barrier-blocks-requires-clause-flagged
@@ -28,7 +28,7 @@ pub write-requires-4 : goal.write-requires-4
 write-requires-4 c = let within = slice_get_within c.args.rows.now c.args.r c.requires.0 c.requires.1 in let room = c.requires.2.room.issued in omega (arith, within, room)
 
 pub write-requires-5 : goal.write-requires-5
-write-requires-5 c = let within = slice_get_within c.args.rows.now c.args.r c.requires.0 c.requires.1 in let room = c.requires.2.room.thresholds in omega (arith, within, room)
+write-requires-5 c = counted_room c.args.rows.now c.args.self.now c.args.r c.index-row.result.now c.requires.0 c.threshold_of.result c.requires.2.counted (c.index-row.ensures ∙ get_or_from_slice_get c.args.rows.now c.args.r c.requires.0 c.index-row.result.now c.requires.1) c.requires.1 c.threshold_of.ensures
 
 pub returns : goal.returns
 returns c =

@@ -15,7 +15,7 @@ count-requires c = room _ _ c.self.invariant.tallied
 pub update-requires : goal.update-requires
 update-requires c =
     let on = rw (← c.self.view_is) at c.requires.continues in
-    rw (c.in_ok-push.ensures.ok, c.len-r.ensures) (c.args.row, get-pushed c.self.inside.rows c.args.row, indexed_push c.self.inside.rows c.make_room.new.self c.args.row c.in_ok-make_room.ensures.indexed c.in_ok-make_room.ensures.ok on)
+    rw (c.in_ok-push.ensures.ok, c.len-r.ensures) (c.args.row, get-pushed c.self.inside.rows c.args.row, indexed_push c.self.inside.rows c.make_room.new.self c.args.row c.in_ok-make_room.ensures.indexed c.in_ok-make_room.ensures.ok c.in_ok-make_room.ensures.counted on)
 
 pub add-requires-clause-few : goal.add-requires-clause-few
 add-requires-clause-few c =

@@ -2,7 +2,7 @@ use Rattle.std.proofs.Common.{refl, length, arith}
 use Rattle.std.proofs.lemmas.Option.{slice_get_read}
 use Rattle.places.proofs.ListLemmas.{slice_get-set_same}
 use Rattle.links_drains.proofs.Finding.{findable_set, place_at}
-use Rattle.links_drains.proofs.Fixed.{fixed_at, fixed_within, same_unit}
+use Rattle.links_drains.proofs.Fixed.{fixed_at, fixed_within, same_count, same_unit}
 use Rattle.links_drains.proofs.Indexing.{indexed_set}
 use Rattle.links_drains.proofs.Tallying.{room_less, counts_row, tallied_set}
 use Rattle.links_drains.proofs.table.Table.set.Goals as goal
@@ -29,7 +29,7 @@ update-requires c =
     rw c.set.ensures (
       c.args.after,
       slice_get-set_same c.self.inside.rows c.args.r c.args.after within,
-      indexed_set c.self.inside.rows c.self.inside.index c.args.r f.before c.args.after c.self.invariant.indexed f.there (same_unit c.args.after f.before f.same),
+      indexed_set c.self.inside.rows c.self.inside.index c.args.r f.before c.args.after c.self.invariant.indexed f.there (same_unit c.args.after f.before f.same) (same_count c.args.after f.before f.same),
     )
 
 pub mark-requires-clause-few : goal.mark-requires-clause-few
