@@ -13,15 +13,15 @@ loop-k-init c = c.new-rest.ensures.items ∙ rest_start c.args.rows.now c.args.r
 
 pub returns-then-other-unit : goal.returns-then-other-unit
 returns-then-other-unit c =
-    c.loop-k.invariant ∙ rest_left c.args.rows.now c.args.r c.loop-k.k _ _ c.requires.chained (slice_get_read c.args.rows.now (length c.args.rows.now) c.args.r c.index-unit.result.now refl (omega arith) c.index-unit.ensures)
+    c.loop-k.invariant ∙ rest_left c.args.rows.now c.args.r c.loop-k.k _ _ c.requires.chained (slice_get_read c.args.rows.now (length c.args.rows.now) c.args.r c.index.result.now refl (omega arith) c.index.ensures)
     (slice_get_read c.args.rows.now (length c.args.rows.now) c.loop-k.k c.index-other.result.now refl (omega arith) c.index-other.ensures) c.loop-k.auto.k c.if-other-unit.true
 
 pub loop-k-preserved : goal.loop-k-preserved
 loop-k-preserved c = elim c.if-is_unfinished.branch [
   | then-is_unfinished+in_ok-push w ↦ ap (λ v. v.items) w.rest-is ∙ w.in_ok-push.ensures.items ∙ ap (λ ks. ks ++ c.loop-k.k ∷ []) c.loop-k.invariant
-      ∙ sym (rest_on c.args.rows.now c.args.r c.loop-k.k _ _ true (slice_get_read c.args.rows.now (length c.args.rows.now) c.args.r c.index-unit.result.now refl (omega arith) c.index-unit.ensures) (slice_get_read c.args.rows.now (length c.args.rows.now) c.loop-k.k c.index-other.result.now refl (omega arith) c.index-other.ensures) c.loop-k.auto.k c.if-other-unit.false (sym c.is_unfinished.ensures ∙ w.if-is_unfinished.true))
+      ∙ sym (rest_on c.args.rows.now c.args.r c.loop-k.k _ _ true (slice_get_read c.args.rows.now (length c.args.rows.now) c.args.r c.index.result.now refl (omega arith) c.index.ensures) (slice_get_read c.args.rows.now (length c.args.rows.now) c.loop-k.k c.index-other.result.now refl (omega arith) c.index-other.ensures) c.loop-k.auto.k c.if-other-unit.false (sym c.is_unfinished.ensures ∙ w.if-is_unfinished.true))
   | else-is_unfinished w ↦ ap (λ v. v.items) w.rest-is ∙ c.loop-k.invariant ∙ sym (append-nil _)
-      ∙ sym (rest_on c.args.rows.now c.args.r c.loop-k.k _ _ false (slice_get_read c.args.rows.now (length c.args.rows.now) c.args.r c.index-unit.result.now refl (omega arith) c.index-unit.ensures) (slice_get_read c.args.rows.now (length c.args.rows.now) c.loop-k.k c.index-other.result.now refl (omega arith) c.index-other.ensures) c.loop-k.auto.k c.if-other-unit.false (sym c.is_unfinished.ensures ∙ w.if-is_unfinished.false))
+      ∙ sym (rest_on c.args.rows.now c.args.r c.loop-k.k _ _ false (slice_get_read c.args.rows.now (length c.args.rows.now) c.args.r c.index.result.now refl (omega arith) c.index.ensures) (slice_get_read c.args.rows.now (length c.args.rows.now) c.loop-k.k c.index-other.result.now refl (omega arith) c.index-other.ensures) c.loop-k.auto.k c.if-other-unit.false (sym c.is_unfinished.ensures ∙ w.if-is_unfinished.false))
 ]
 
 pub returns : goal.returns

@@ -2,7 +2,7 @@ use Rattle.std.proofs.Common.{◌≡◌, refl, sym, ◌∙◌, ap, length, [], �
 use Rattle.std.specs.Prelude.{None, option_map, slice_get}
 use Rattle.std.proofs.lemmas.Option.{slice_get_past}
 use Rattle.places.specs.declared.value.Value.TheVariants.{Requested}
-use Rattle.places.proofs.Keeping.{keeps_noted}
+use Rattle.places.proofs.Keeping.{keeps_noted, keeps_unchanged}
 use Rattle.links_drains.proofs.Indexing.{indexed_push}
 use Rattle.links_drains.proofs.RowsKept.{get-pushed}
 use Rattle.links_drains.proofs.Seen.{seen_push}
@@ -39,3 +39,9 @@ returns-clause-keeps c =
     let absent : option_map Requested (slice_get c.self.inside.rows (length c.self.inside.rows)) ≡ None = ap (option_map Requested) (slice_get_past c.self.inside.rows (length c.self.inside.rows) (omega arith)) in
     let noted = rw c.len-r.ensures at c.in_ok-note_row.ensures.ok in
     rw (← c.self.view_is, c.in_ok-push.ensures.ok) (keeps_noted _ _ _ _ _ _ _ refl (rw absent noted) (seen_push _ _))
+
+pub returns-in_err-push-clause-keeps : goal.returns-in_err-push-clause-keeps
+returns-in_err-push-clause-keeps c =
+    let absent : option_map Requested (slice_get c.self.inside.rows (length c.self.inside.rows)) ≡ None = ap (option_map Requested) (slice_get_past c.self.inside.rows (length c.self.inside.rows) (omega arith)) in
+    let noted = rw c.len-r.ensures at c.in_ok-note_row.ensures.ok in
+    rw (← c.self.view_is, c.in_err-push.ensures.err) (keeps_unchanged _ _ _ _ _ refl (rw absent noted))
