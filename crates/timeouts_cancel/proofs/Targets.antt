@@ -1,5 +1,5 @@
 -- Finding the linked timeouts of listed requests, one by one.
-use Rattle.std.proofs.Common.{◌≡◌, ℕ, ℤ, Bool, true, false, cond, refl, sym, ◌∙◌, ap, List, ◌++◌, length, ◌+◌, ◌-◌, ◌<◌, ◌≤◌, ◌⊎◌, inl, inr, arith}
+use Rattle.std.proofs.Common.{◌≡◌, ℕ, ℤ, Bool, true, false, cond, refl, sym, ◌∙◌, ap, List, ◌++◌, length, ◌+◌, ◌-◌, ◌<◌, ◌≤◌, ◌⊎◌, arith}
 use Rattle.std.specs.Prelude.{Option, Some, None, slice_get}
 use Rattle.std.specs.Option.{option_map_or}
 use Rattle.std.proofs.lemmas.List.{append-nil}
@@ -61,19 +61,10 @@ guarded_next rows listed i es fs e b linked d w h g k = record {
     f = guard_result listed
 
     low : (j : ℕ) (p : Ending) → slice_get listed j ≡ Some p → j < i + 1 → (j < i) ⊎ (i ≤ j) → p.0 + 1 < e.0 + 1 + 1
-    low j p q l (inl a) = let x = d.rising j i p e q h a in omega (arith, x)
-    low j p q l (inr a) = let n : j ≡ i = omega (arith, a, l) in let x = ap (λ (y : Ending). y.0) (same_ending p e (sym q ∙ ap (slice_get listed) n ∙ h)) in omega (arith, x)
+    low = grind arith
 
     none : (r : ℕ) (row : Row) → w.to ≤ r → r < e.0 + 1 → slice_get rows r ≡ Some row → result_of f r row ≡ None
-    none r row l m t = no_guard rows listed r row linked t (λ j p q same. by j p q same (split j i))
-      where
-        by : (j : ℕ) (p : Ending) → slice_get listed j ≡ Some p → p.0 + 1 ≡ r → (j < i) ⊎ (i ≤ j) → ⊥
-        by j p q same (inl a) = let x = w.below j p q a in omega (arith, x, same, l)
-        by j p q same (inr a) = from (split i j)
-          where
-            from : (i < j) ⊎ (j ≤ i) → ⊥
-            from (inl y) = let x = d.rising i j e p h q y in omega (arith, x, same, m)
-            from (inr y) = let n : j ≡ i = omega (arith, a, y) in let x = ap (λ (z : Ending). z.0) (same_ending p e (sym q ∙ ap (slice_get listed) n ∙ h)) in omega (arith, x, same, m)
+    none = grind (arith, no_guard, split, same_ending)
 
     before : es ≡ upto f rows (e.0 + 1)
     before =

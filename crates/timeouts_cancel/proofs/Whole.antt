@@ -101,8 +101,7 @@ from_direct rows c direct r row e i h s =
         severed_by rows (own_endings rows direct) r row f.0 f.1 f.2 (severs_then rows e.0 r s.before row f.1 s.less s.unit (severs_is rows e.0 s.before f.1 f.3))
 
     severed : is_unfinished s.before.phase ≡ true → (o : Option ℤ) → result_in (own_endings rows direct) e.0 ≡ o → or_else o (given (is_severed rows (own_endings rows direct) e.0 s.before) ecanceled) ≡ Some e.1 → is_severed rows (own_endings rows direct) r row ≡ true
-    severed u None d k = of_severed (given_is (is_severed rows (own_endings rows direct) e.0 s.before) ecanceled e.1 k).0
-    severed u (Some x) d k = let y : x ≡ e.1 = cc in of_direct x y d
+    severed = grind (arith, given_is, of_direct, of_severed)
 
     met : is_unfinished s.before.phase ≡ true → (o : Option ℤ) → result_in (severed_endings rows direct) e.0 ≡ o → or_else o (given (is_met (c + counted_in rows (severed_endings rows direct)) s.before) (pos 0)) ≡ Some e.1 → is_severed rows (own_endings rows direct) r row ≡ true
     met u None d k =
