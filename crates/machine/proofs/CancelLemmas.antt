@@ -1,13 +1,12 @@
 -- A cancellation completes unfinished requests, by ascending number.
 use Rattle.std.proofs.Common.{◌≡◌, ℕ, zero, suc, Bool, true, false, not, cond, refl, sym, ◌∙◌, ap, subst, List, [], ◌∷◌, ◌++◌, length, map, ◌+◌, ◌<◌, ◌≤◌, le_refl, arith}
-use Rattle.std.specs.Prelude.{Option, Some, None, option_map, slice_get, ◌==◌, ◌&&◌, nat_lt, if◌then◌else◌}
+use Rattle.std.specs.Prelude.{Option, Some, None, slice_get, ◌==◌, ◌&&◌, nat_lt, if◌then◌else◌}
 use Rattle.std.specs.List.{filter, enumerate_from}
 use Rattle.std.proofs.lemmas.Bool.Decides.{nat_tests}
 use Rattle.std.proofs.lemmas.Option.{slice_get_within}
 use Rattle.entries.specs.declared.entry.Sqe.{Sqe}
 use Rattle.entries.specs.declared.row.Row.{Row}
 use Rattle.entries.specs.declared.row.Phase.{Phase}
-use Rattle.entries.specs.declared.row.Phase.TheVariants.{Queued, Issued, Ended}
 use Rattle.model_files.specs.Worlds.{WorldState}
 use Rattle.opcodes.specs.Outcomes.{is_running}
 use Rattle.links_drains.specs.Endings.{Ending, ecanceled, Direct}
@@ -18,7 +17,7 @@ use Rattle.timeouts_cancel.specs.declared.matching.Key.{Key}
 use Rattle.timeouts_cancel.specs.declared.matching.Found.TheVariants.{Running, Waiting}
 use Rattle.timeouts_cancel.specs.Matches.{fits_key, is_match, matches_of, found_by, found_first, is_waiting_match, waiting_by}
 use Rattle.timeouts_cancel.proofs.Severing.{both}
-use Rattle.machine.specs.Cancels.{Verdict, key_of, takes_all, on_found, on_all, verdict_of, canceled, ending_with}
+use Rattle.machine.specs.Cancels.{Verdict, on_found, verdict_of, canceled, ending_with}
 
 less_of : (a b : ℕ) → nat_lt a b ≡ true → a < b
 less_of a b k = grind (arith, nat_tests, k)
@@ -51,11 +50,7 @@ rises_above rows a b (d ∷ es) h (suc i) e k = let n = rises_above rows (d.0 + 
 rises_order : (rows : List Row) (a b : ℕ) (es : List Ending) → Rises rows a b es → (i j : ℕ) (p q : Ending) → slice_get es i ≡ Some p → slice_get es j ≡ Some q → i < j → p.0 < q.0
 rises_order rows a b [] h i j p q k g l = absurd cc
 rises_order rows a b (d ∷ es) h i zero p q k g l = absurd (omega (arith, l))
-rises_order rows a b (d ∷ es) h zero (suc j) p q k g l =
-    let same : d ≡ p = cc in
-    let low : d.0 ≡ p.0 = ap (λ (z : Ending). z.0) same in
-    let n = rises_above rows (d.0 + 1) b es h.4 j q g in
-    omega (arith, n, low)
+rises_order rows a b (d ∷ es) h zero (suc j) p q k g l = grind (arith, rises_above)
 rises_order rows a b (d ∷ es) h (suc i) (suc j) p q k g l = rises_order rows (d.0 + 1) b es h.4 i j p q k g (omega (arith, l))
 
 rises_direct : (rows : List Row) (a b : ℕ) (es : List Ending) → Rises rows a b es → Direct rows es
@@ -135,16 +130,10 @@ passing {X} test (y ∷ ys) i x h = by (test y) refl i h (λ k g. passing test y
 
 -- The first row that passes a test.
 first_there : (rows : List Row) (test : ℕ × Row → Bool) (p : ℕ × Row) → slice_get (filter test (enumerate_from 0 rows)) 0 ≡ Some p → (slice_get rows p.0 ≡ Some p.1) × (test p ≡ true)
-first_there rows test p h = let m = passing test (enumerate_from 0 rows) 0 p h in by m.0 (slice_get rows m.0) refl (sym (enumerated rows m.0) ∙ m.1) m.2
-  where
-    by : (j : ℕ) (o : Option Row) → slice_get rows j ≡ o → option_map (λ (y : Row). (j, y)) o ≡ Some p → test p ≡ true → (slice_get rows p.0 ≡ Some p.1) × (test p ≡ true)
-    by j None e k t = absurd cc
-    by j (Some y) e k t = let same : (j, y) ≡ p = cc in (subst (λ (q : ℕ × Row). slice_get rows q.0 ≡ Some q.1) same e, t)
+first_there = grind (arith, passing, enumerated)
 
 issued_open : (p : Phase) → is_issued p ≡ true → is_unfinished p ≡ true
-issued_open Queued h = refl
-issued_open Issued h = refl
-issued_open (Ended n) h = absurd cc
+issued_open = grind arith
 
 match_open : (key : Key) (me : ℕ) (p : ℕ × Row) → is_match key me p.0 p.1 ≡ true → is_unfinished p.1.phase ≡ true
 match_open key me p h = issued_open p.1.phase (both (is_issued p.1.phase) (not (is_guard p.1) && (not (p.0 == me) && fits_key key p.1)) h).0
@@ -166,11 +155,7 @@ others_found rows w key me = by (slice_get (matches_of rows key me) 0) refl
     by (Some p) e = waits p e (is_running w p.1)
 
 others_of : (rows : List Row) (w : WorldState) (me : ℕ) (entry : Sqe) → Others rows 0 (verdict_of rows w me entry).1
-others_of rows w me entry = by (takes_all entry)
-  where
-    by : (b : Bool) → Others rows 0 (if b then on_all (waiting_by rows w (key_of entry) me) else on_found (found_by rows w (key_of entry) me)).1
-    by true = others_waiting rows w (key_of entry) me
-    by false = others_found rows w (key_of entry) me
+others_of = grind (arith, others_waiting, others_found)
 
 -- A cancellation and the requests that it cancels are valid direct completions.
 pub direct_cancel : (rows : List Row) (w : WorldState) (me : ℕ) (entry : Sqe) (x : Row) → slice_get rows me ≡ Some x → is_ended x.phase ≡ false → Direct rows (ending_with me (verdict_of rows w me entry))
@@ -180,12 +165,7 @@ direct_cancel rows w me entry x e u = direct_around rows me x (verdict_of rows w
 
 few_from : (test : ℕ × Row → Bool) (n : ℕ) (rows : List Row) → length (map number (filter test (enumerate_from n rows))) ≤ length rows
 few_from test n [] = omega arith
-few_from test n (row ∷ rows) = by (test (n, row)) (few_from test (n + 1) rows)
-  where
-    by : (b : Bool) → length (map number (filter test (enumerate_from (n + 1) rows))) ≤ length rows
-        → length (map number (cond b ((n, row) ∷ filter test (enumerate_from (n + 1) rows)) (filter test (enumerate_from (n + 1) rows)))) ≤ suc (length rows)
-    by true k = omega (arith, k)
-    by false k = omega (arith, k)
+few_from test n (row ∷ rows) = grind (arith, few_from test (n + 1) rows)
 
 -- At most as many requests wait as there are.
 pub few_waiting : (rows : List Row) (w : WorldState) (key : Key) (me : ℕ) → length (waiting_by rows w key me) ≤ length rows

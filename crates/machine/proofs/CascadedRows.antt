@@ -1,18 +1,17 @@
 -- The requests of a cascade, and the machine after it.
 use Rattle.std.proofs.Common.{◌≡◌, ℕ, ℤ, zero, suc, Bool, true, false, cond, refl, sym, ◌∙◌, ap, subst, List, [], ◌∷◌, length, ◌+◌, ◌*◌, ◌<◌, ◌≤◌, ◌⊎◌, inl, inr, arith}
 use Rattle.std.proofs.lemmas.Bool.{eq-eqb}
-use Rattle.std.specs.Prelude.{Option, Some, None, option_map, slice_get, not, nat_lt, nat_le, ◌==◌, ◌&&◌}
+use Rattle.std.specs.Prelude.{Option, Some, None, option_map, slice_get, not}
 use Rattle.std.specs.Option.{option_map_or}
 use Rattle.entries.specs.declared.row.Row.{Row}
-use Rattle.entries.specs.declared.row.Phase.{Phase}
-use Rattle.entries.specs.declared.row.Phase.TheVariants.{Queued, Issued, Ended}
+use Rattle.entries.specs.declared.row.Phase.TheVariants.{Ended}
 use Rattle.model_files.specs.Worlds.{PutsWithin}
 use Rattle.opcodes.proofs.Counting.{puts_more}
 use Rattle.links_drains.specs.Endings.{ended_by, result_in, Direct}
 use Rattle.links_drains.specs.Counts.{is_met}
 use Rattle.links_drains.specs.Links.{is_guard}
 use Rattle.links_drains.specs.Numbered.{map_numbered}
-use Rattle.links_drains.specs.Phases.{is_ended, is_issued, is_unfinished, ended_of}
+use Rattle.links_drains.specs.Phases.{is_ended, is_unfinished, ended_of}
 use Rattle.timeouts_cancel.specs.Cascades.{counted_in, fall_of}
 use Rattle.timeouts_cancel.proofs.Whole.{counted_cascade, unlisted, cascade_unfinished, cascade_rising, target_stays}
 use Rattle.machine.specs.Steps.{all_ended, cascaded}
@@ -46,12 +45,7 @@ cascades_some rows c r res x e u = by (fall_of rows c ((r, res) ∷ [])) refl
 
 -- A completed request waits for no count.
 ended_unmet : (n : ℕ) (x : Row) → is_ended x.phase ≡ true → is_met n x ≡ false
-ended_unmet n x h = by x.phase refl h
-  where
-    by : (p : Phase) → x.phase ≡ p → is_ended p ≡ true → is_met n x ≡ false
-    by Queued e k = absurd cc
-    by Issued e k = absurd cc
-    by (Ended res) e k = ap (λ q. (is_issued q && ((x.entry.opcode == 11) && nat_lt 0 x.entry.off)) && nat_le (x.base + x.entry.off) n) e
+ended_unmet = grind arith
 
 -- After a cascade, no issued TIMEOUT has reached its count.
 cascaded_unmet : (m : Machine) (direct : List (ℕ × ℤ)) → NoneMet (cascaded m direct).counted (cascaded m direct).table

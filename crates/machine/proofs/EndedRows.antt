@@ -1,8 +1,7 @@
 -- Requests that complete together.
-use Rattle.std.proofs.Common.{◌≡◌, ℕ, ℤ, zero, suc, Bool, true, false, cond, refl, sym, ◌∙◌, ap, subst, List, [], ◌∷◌, length, ◌+◌, ◌<◌, ◌≤◌, ◌⊎◌, inl, inr, arith}
+use Rattle.std.proofs.Common.{◌≡◌, ℕ, ℤ, zero, suc, Bool, true, false, cond, refl, sym, ◌∙◌, ap, subst, List, [], ◌∷◌, length, ◌+◌, ◌<◌, ◌≤◌, ◌⊎◌, arith, rules}
 use Rattle.std.proofs.lemmas.Bool.{eqb-true}
 use Rattle.std.specs.Prelude.{Option, Some, None, option_map, slice_get, not, ◌==◌}
-use Rattle.std.specs.List.{filter}
 use Rattle.std.specs.Option.{option_map_or}
 use Rattle.entries.specs.declared.row.Row.{Row}
 use Rattle.entries.specs.declared.row.Phase.TheVariants.{Ended}
@@ -36,8 +35,7 @@ updated_other f (x ∷ rows) (suc r) zero h = absurd (omega arith)
 updated_other f (x ∷ rows) (suc r) (suc j) h = updated_other f rows r j (omega arith)
 
 not_ended : (b : Bool) → not b ≡ true → b ≡ false
-not_ended true h = absurd cc
-not_ended false h = refl
+not_ended = grind arith
 
 pub can_end : (rows : List Row) (es : List Ending) → Direct rows es → CanEnd rows es
 can_end rows [] h = tt
@@ -67,31 +65,16 @@ listed_once rows (e ∷ es) r row h g u = by (e.0 == r) refl (λ k. listed_once 
 
 -- Fields that the completion of a request doesn't change.
 left_alone : {X : Type 0} (f : Row → X) (rows : List Row) (r j : ℕ) (res : ℤ) → ((row : Row) → f (ending res row) ≡ f row) → option_map f (slice_get (updated (ending res) rows r) j) ≡ option_map f (slice_get rows j)
-left_alone {X} f rows r j res same = ap (option_map f) (get-updated (ending res) rows r j) ∙ by (r == j) (slice_get rows j)
-  where
-    by : (b : Bool) (o : Option Row) → option_map f (cond b (option_map (ending res) o) o) ≡ option_map f o
-    by false o = refl
-    by true None = refl
-    by true (Some row) = ap Some (same row)
+left_alone = grind (arith, get-updated)
 
 mapped_or : (o : Option Row) → option_map_or counts o false ≡ option_map_or (λ (b : Bool). b) (option_map counts o) false
-mapped_or None = refl
-mapped_or (Some row) = refl
+mapped_or = grind arith
 
 counted_more : (rows : List Row) (e : Ending) (es : List Ending) → counted_in rows (e ∷ es) ≡ cond (option_map_or counts (slice_get rows e.0) false) 1 0 + counted_in rows es
-counted_more rows e es = by (option_map_or counts (slice_get rows e.0) false) (filter (λ (x : Ending). option_map_or counts (slice_get rows x.0) false) es)
-  where
-    by : (b : Bool) (xs : List Ending) → length (cond b (e ∷ xs) xs) ≡ cond b 1 0 + length xs
-    by true xs = omega arith
-    by false xs = omega arith
+counted_more = grind arith
 
 counted_same : (rows : List Row) (r : ℕ) (res : ℤ) (es : List Ending) → counted_in (updated (ending res) rows r) es ≡ counted_in rows es
-counted_same rows r res [] = refl
-counted_same rows r res (e ∷ es) =
-    counted_more (updated (ending res) rows r) e es
-    ∙ ap (λ b. cond b 1 0 + counted_in (updated (ending res) rows r) es) (mapped_or (slice_get (updated (ending res) rows r) e.0) ∙ ap (λ o. option_map_or (λ (b : Bool). b) o false) (left_alone counts rows r e.0 res (λ row. refl)) ∙ sym (mapped_or (slice_get rows e.0)))
-    ∙ ap (λ n. cond (option_map_or counts (slice_get rows e.0) false) 1 0 + n) (counted_same rows r res es)
-    ∙ sym (counted_more rows e es)
+counted_same = search (rules, counted_more, mapped_or, left_alone)
 
 -- The table after the listed requests completed.
 pub record EndedTogether (rows : List Row) (es : List Ending) (after : List Row) : Type 0 where
@@ -121,28 +104,14 @@ ended_together rows (e ∷ es) h = ended_first rows e es h (ended_together (upda
 
 -- There are at most as many as unfinished requests.
 pub can_end_most : (rows : List Row) (es : List Ending) → CanEnd rows es → ended_of rows + length es ≤ length rows
-can_end_most rows es h =
-    let t = ended_together rows es h in
-    let a = t.ended in
-    let b = t.same_length in
-    let c = ended-le-length (map_numbered (ended_by es) rows) in
-    omega (arith, a, b, c)
+can_end_most = grind (arith, ended_together, ended-le-length)
 
 -- ---- Each request
 
 -- A completed request has completed, and no other changes.
 pub ended_or_same : (rows : List Row) (es : List Ending) (j : ℕ) (y : Row) → slice_get (map_numbered (ended_by es) rows) j ≡ Some y → ((slice_get rows j ≡ Some y) × (result_in es j ≡ None)) ⊎ (is_ended y.phase ≡ true)
-ended_or_same rows es j y h = by (slice_get rows j) (result_in es j) (sym (mapped_at (ended_by es) rows j) ∙ h)
-  where
-    by : (o : Option Row) (res : Option ℤ) → option_map (λ row. option_map_or (λ n. ending n row) res row) o ≡ Some y → ((o ≡ Some y) × (res ≡ None)) ⊎ (is_ended y.phase ≡ true)
-    by None res k = absurd cc
-    by (Some x) None k = inl (k, refl)
-    by (Some x) (Some n) k = let same : ending n x ≡ y = cc in inr (ap (λ (z : Row). is_ended z.phase) (sym same))
+ended_or_same = grind (arith, mapped_at)
 
 -- A request that isn't listed doesn't change.
 pub unlisted_same : (rows : List Row) (es : List Ending) (j : ℕ) → result_in es j ≡ None → slice_get (map_numbered (ended_by es) rows) j ≡ slice_get rows j
-unlisted_same rows es j h = mapped_at (ended_by es) rows j ∙ ap (λ res. option_map (λ row. option_map_or (λ n. ending n row) res row) (slice_get rows j)) h ∙ by (slice_get rows j)
-  where
-    by : (o : Option Row) → option_map (λ row. row) o ≡ o
-    by None = refl
-    by (Some x) = refl
+unlisted_same = grind (arith, mapped_at)

@@ -1,13 +1,13 @@
 -- The direct completions when a timer expires.
-use Rattle.std.proofs.Common.{◌≡◌, ℕ, Bool, true, false, refl, sym, ◌∙◌, ap, List, [], ◌∷◌, arith}
-use Rattle.std.specs.Prelude.{Option, Some, None, slice_get, ◌&&◌, if◌then◌else◌}
+use Rattle.std.proofs.Common.{◌≡◌, ℕ, true, sym, ◌∙◌, ap, List, [], ◌∷◌, arith}
+use Rattle.std.specs.Prelude.{Option, Some, slice_get}
 use Rattle.entries.specs.declared.row.Row.{Row}
 use Rattle.entries.specs.declared.row.Phase.TheVariants.{Issued}
 use Rattle.links_drains.specs.Endings.{Direct, ecanceled}
 use Rattle.links_drains.specs.Links.{is_guard}
 use Rattle.links_drains.specs.Phases.{is_ended, is_unfinished}
 use Rattle.model_files.specs.Worlds.{WorldState}
-use Rattle.machine.specs.Steps.{waiting_target, waits_at}
+use Rattle.machine.specs.Steps.{waiting_target}
 use Rattle.machine.specs.Submission.{etime}
 use Rattle.machine.specs.Whole.{WellFormed}
 use Rattle.machine.specs.declared.whole.Machine.{Machine}
@@ -15,13 +15,7 @@ use Rattle.machine.proofs.CascadedRows.{direct_two}
 
 -- Only a linked timeout has a target that waits.
 waiting_is_guard : (rows : List Row) (w : WorldState) (x : Row) (o : Option ℕ) (t : ℕ) → waiting_target rows w x o ≡ Some t → (is_guard x ≡ true) × (o ≡ Some t)
-waiting_is_guard rows w x None t h = absurd cc
-waiting_is_guard rows w x (Some n) t h = by (is_guard x) (waits_at rows w n) refl h
-  where
-    by : (a b : Bool) → is_guard x ≡ a → (if a && b then Some n else None) ≡ Some t → (is_guard x ≡ true) × (Some n ≡ Some t)
-    by true true k g = (k, g)
-    by true false k g = absurd cc
-    by false b k g = absurd cc
+waiting_is_guard = grind arith
 
 -- The target comes before its linked timeout.
 pub direct_pair : (m : Machine) (r t : ℕ) (x : Row) → WellFormed m → slice_get m.table r ≡ Some x → x.phase ≡ Issued → waiting_target m.table m.world x x.target ≡ Some t → Direct m.table ((t, ecanceled) ∷ (r, etime) ∷ [])

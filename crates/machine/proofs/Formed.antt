@@ -1,6 +1,6 @@
 -- Accepted events preserve well-formedness.
 use Rattle.std.proofs.Common.{◌≡◌, ℕ, ℤ, zero, suc, pos, negsuc, Bool, true, false, cond, refl, sym, ◌∙◌, ap, List, [], ◌∷◌, length, ◌+◌, ◌*◌, ◌%◌, ◌<◌, ◌≤◌, ◌^◌, ◌⊎◌, inl, inr, arith, FitsSigned}
-use Rattle.std.specs.Prelude.{Option, Some, None, not, min, slice_get, slice_set, nat_lt, ◌==◌, ◌&&◌, ◌||◌, if◌then◌else◌}
+use Rattle.std.specs.Prelude.{Option, Some, None, min, slice_get, slice_set, nat_lt, ◌==◌, ◌&&◌, if◌then◌else◌}
 use Rattle.std.specs.Int.{w64}
 use Rattle.std.proofs.lemmas.Bool.{eq-eqb}
 use Rattle.std.proofs.lemmas.Bool.Decides.{leb_tells}
@@ -22,36 +22,33 @@ use Rattle.model_files.proofs.Fixing as worlds
 use Rattle.model_files.proofs.Forming.{world_stored_formed, world_closed_formed}
 use Rattle.places.specs.declared.value.Stage.{Stage}
 use Rattle.places.specs.declared.value.Stage.TheVariants.{Ready, Waiting}
-use Rattle.ring_words.specs.Rings.{waiting, with_flag}
-use Rattle.ring_words.specs.declared.flag.RingFlag.TheVariants.{NeedWakeup}
-use Rattle.ring_words.proofs.Laws.{formed_flag}
-use Rattle.overflow.specs.Backlogs.{is_clear}
+use Rattle.ring_words.specs.Rings.{waiting}
 use Rattle.sqpoll.specs.declared.poller.Poller.{Poller}
 use Rattle.sqpoll.specs.declared.poller.Poller.TheVariants.{Awake, Asleep}
-use Rattle.sqpoll.specs.Pollers.{is_awake}
 use Rattle.links_drains.specs.Batches.{direct_of}
 use Rattle.links_drains.specs.Phases.{is_ended}
 use Rattle.machine.specs.Cancels.{verdict_of, ending_with}
 use Rattle.machine.specs.Submission.{offered, einval, ebusy, ebadf}
-use Rattle.machine.specs.Steps.{refusal, after, resumed, stepped, executed, entered, entered_without_poller, entered_with_poller, submitting, before_submission, is_busy, is_unknown, gets_events, wakes, woken, shown, awaited, ready_count, held_back, with_poller, flushed, submission_refusal, alone_refusal, enter_refusal, instruction_refusal, next_refusal, closed, is_open, thread_refusal, take_refusal, phase_refusal, choice_refusal, finish_refusal, taken, submitted, answered, advanced, cancelled, finished, finished_as, lacks_descriptor, cascaded, all_started, entries_for, expired, expiring, waiting_target}
+use Rattle.machine.specs.Steps.{refusal, after, resumed, stepped, executed, entered, entered_without_poller, entered_with_poller, submitting, before_submission, is_busy, is_unknown, gets_events, wakes, woken, shown, awaited, ready_count, held_back, with_poller, submission_refusal, alone_refusal, enter_refusal, instruction_refusal, next_refusal, closed, is_open, thread_refusal, phase_refusal, choice_refusal, finish_refusal, taken, submitted, answered, advanced, cancelled, finished, finished_as, lacks_descriptor, cascaded, all_started, entries_for, expired, expiring, waiting_target}
 use Rattle.machine.specs.Threads.{ThreadState}
-use Rattle.machine.specs.Whole.{is_asleep, flag_word, WellFormed}
+use Rattle.machine.specs.Whole.{WellFormed}
 use Rattle.scenario.specs.declared.setup.Instruction.{Instruction}
 use Rattle.scenario.specs.declared.setup.Instruction.TheVariants.{Put, Push, Store, Enter, Reap, Close}
 use Rattle.machine.specs.declared.whole.Machine.{Machine}
 use Rattle.scenario.specs.declared.event.Event.{Event}
 use Rattle.scenario.specs.declared.event.Event.TheVariants.{Step, Take, Sleep, Issue, Finish, Expire, Tick}
-use Rattle.scenario.specs.declared.event.Refusal.TheVariants.{SqFull, NothingToReap, WrongPhase, ClockFull, RequestsFull}
+use Rattle.scenario.specs.declared.event.Refusal.TheVariants.{SqFull, NothingToReap, WrongPhase}
 use Rattle.machine.proofs.FormedThreads.{well_formed_on, well_formed_held, formed_thread}
 use Rattle.links_drains.specs.Phases.{ended_of}
 use Rattle.timeouts_cancel.specs.Cascades.{fall_of}
 use Rattle.opcodes.proofs.Counting.{puts_after, puts_more}
-use Rattle.machine.proofs.FormedMachines.{formed_issued, formed_world, mostly, mostly_world, rows_moved, formed_flushed, wakeup_flag, formed_put, formed_push, formed_taken_out}
+use Rattle.machine.proofs.FormedMachines.{formed_issued, formed_world, mostly, mostly_world, rows_moved, formed_flushed, formed_put, formed_push, formed_taken_out}
 use Rattle.machine.proofs.FormedSubmissions.{formed_submitted, length-taken_entries}
 use Rattle.machine.proofs.CascadedRows.{cascades_some, formed_cascaded, formed_cascaded_but, threads_cascaded}
 use Rattle.machine.proofs.EnterLemmas.{CanStart, can_start}
 use Rattle.machine.proofs.GuardLemmas.{eligible_no_guard}
 use Rattle.machine.proofs.PipeCounts.{puts_fit}
+use Rattle.std.proofs.lemmas.Grind.{common_steps}
 
 ltb_decides : (a b : ℕ) → ((ltb a b ≡ true) × (a < b)) ⊎ ((ltb a b ≡ false) × (b ≤ a))
 ltb_decides a b = elim (leb_tells (suc a) b) [ inl k ↦ inl (k.0, k.1) | inr k ↦ inr (k.0, let l = k.1 in omega arith) ]
@@ -59,24 +56,7 @@ ltb_decides a b = elim (leb_tells (suc a) b) [ inl k ↦ inl (k.0, k.1) | inr k 
 -- ---- Each event
 
 formed_tick : (m : Machine) (d : ℕ) → WellFormed m → refusal m (Tick d) ≡ None → WellFormed (after m (Tick d))
-formed_tick m d f h = record {
-  mostly = record {
-    rings = f.mostly.rings;
-    kept = f.mostly.kept;
-    table = f.mostly.table;
-    world = f.mostly.world;
-    clock = by (ltb_decides (m.clock + d) (2 ^ 64));
-    threads = f.mostly.threads;
-  };
-  rows = f.rows;
-  guards = f.guards;
-  unmet = f.unmet;
-  puts = f.puts;
-}
-  where
-    by : ((ltb (m.clock + d) (2 ^ 64) ≡ true) × (m.clock + d < 2 ^ 64)) ⊎ ((ltb (m.clock + d) (2 ^ 64) ≡ false) × (2 ^ 64 ≤ m.clock + d)) → m.clock + d < 2 ^ 64
-    by (inl a) = a.1
-    by (inr a) = absurd (let k = ap (λ b. cond b None (Some ClockFull)) (sym a.0) ∙ h in cc)
+formed_tick = grind arith
 
 formed_issue : (m : Machine) (r : ℕ) → WellFormed m → refusal m (Issue r) ≡ None → WellFormed (after m (Issue r))
 formed_issue m r f h = rw c.there (by (lacks_descriptor m.world c.row) refl)
@@ -128,12 +108,7 @@ formed_finish m r c f h = by (slice_get m.table r) refl h
 
 -- An accepted submission has room for its requests.
 submission_room : (m : Machine) (k : ℕ) → submission_refusal m k ≡ None → length m.table + length (offered m.submissions k) ≤ 65536
-submission_room m k h = by (ltb_decides 65536 (length m.table + length (offered m.submissions k)))
-  where
-    by : ((ltb 65536 (length m.table + length (offered m.submissions k)) ≡ true) × (65536 < length m.table + length (offered m.submissions k))) ⊎ ((ltb 65536 (length m.table + length (offered m.submissions k)) ≡ false) × (length m.table + length (offered m.submissions k) ≤ 65536))
-        → length m.table + length (offered m.submissions k) ≤ 65536
-    by (inl a) = absurd (let l = ap (λ b. cond b (Some RequestsFull) None) (sym a.0) ∙ h in cc)
-    by (inr a) = a.1
+submission_room = grind arith
 
 pub formed_submission : (m : Machine) (k : ℕ) → WellFormed m → submission_refusal m k ≡ None → WellFormed (submitted m k)
 formed_submission m k f h = formed_submitted m k f (submission_room m k h)
@@ -166,42 +141,13 @@ formed_awaited m t x n k w flags to_submit min_complete asked f e g l l' = by (g
     by false = formed_answered m t x (Enter to_submit min_complete asked) (pos n) f e g (omega (arith, l))
 
 pub formed_before : (m : Machine) (k flags : ℕ) → WellFormed m → WellFormed (before_submission m k flags)
-formed_before m k flags f = by (gets_events flags || nat_lt 0 k)
-  where
-    by : (b : Bool) → WellFormed (if b then flushed m else m)
-    by true = formed_flushed m f
-    by false = f
+formed_before = grind (arith, common_steps, formed_flushed)
 
 pub before_threads : (m : Machine) (k flags : ℕ) → (before_submission m k flags).threads ≡ m.threads
-before_threads m k flags = by (gets_events flags || nat_lt 0 k)
-  where
-    by : (b : Bool) → (if b then flushed m else m).threads ≡ m.threads
-    by true = refl
-    by false = refl
+before_threads = grind arith
 
 pub formed_poller : (m : Machine) (p : Poller) → WellFormed m → WellFormed (with_poller m p)
-formed_poller m p h =
-    let f : (with_poller m p).submissions.flags ≡ flag_word (not (is_awake p)) (not (is_clear m.backlog)) = ap (λ n. with_flag n NeedWakeup (not (is_awake p))) h.mostly.rings.flags ∙ wakeup_flag (is_asleep m.poller) (not (is_clear m.backlog)) (not (is_awake p)) in
-    record {
-      mostly = record {
-        rings = record {
-          submissions = formed_flag m.submissions NeedWakeup _ h.mostly.rings.submissions;
-          completions = h.mostly.rings.completions;
-          entries_wait = h.mostly.rings.entries_wait;
-          completions_wait = h.mostly.rings.completions_wait;
-          flags = f;
-        };
-        kept = h.mostly.kept;
-        table = h.mostly.table;
-        world = h.mostly.world;
-        clock = h.mostly.clock;
-        threads = h.mostly.threads;
-      };
-      rows = h.rows;
-      guards = h.guards;
-      unmet = h.unmet;
-      puts = h.puts;
-    }
+formed_poller = grind arith
 
 pub formed_woken : (m : Machine) (flags : ℕ) → WellFormed m → WellFormed (woken m flags)
 formed_woken m flags f = by (wakes flags)
@@ -211,25 +157,13 @@ formed_woken m flags f = by (wakes flags)
     by false = f
 
 pub woken_threads : (m : Machine) (flags : ℕ) → (woken m flags).threads ≡ m.threads
-woken_threads m flags = by (wakes flags)
-  where
-    by : (b : Bool) → (if b then with_poller m Awake else m).threads ≡ m.threads
-    by true = refl
-    by false = refl
+woken_threads = grind arith
 
 formed_shown : (m : Machine) (flags : ℕ) → WellFormed m → WellFormed (shown m flags)
-formed_shown m flags f = by (gets_events flags)
-  where
-    by : (b : Bool) → WellFormed (if b then flushed m else m)
-    by true = formed_flushed m f
-    by false = f
+formed_shown = grind (arith, common_steps, formed_flushed)
 
 pub shown_threads : (m : Machine) (flags : ℕ) → (shown m flags).threads ≡ m.threads
-shown_threads m flags = by (gets_events flags)
-  where
-    by : (b : Bool) → (if b then flushed m else m).threads ≡ m.threads
-    by true = refl
-    by false = refl
+shown_threads = grind arith
 
 fits_ebusy : FitsSigned w64 ebusy
 fits_ebusy = omega arith
@@ -353,12 +287,7 @@ formed_step m t f h = by (slice_get m.threads t) refl h
     by (Some x) e k = at x e x.stage refl (slice_get x.program x.counter) refl k
 
 formed_take : (m : Machine) (n : ℕ) → WellFormed m → refusal m (Take n) ≡ None → WellFormed (after m (Take n))
-formed_take m n f h = by m.poller h
-  where
-    by : (o : Option Poller) → take_refusal m o n ≡ None → WellFormed (submitted m n)
-    by None k = absurd cc
-    by (Some Awake) k = formed_submission m n f k
-    by (Some Asleep) k = absurd cc
+formed_take = grind (arith, formed_submission)
 
 -- An accepted event leaves a well-formed machine.
 pub formed_after : (m : Machine) (e : Event) → WellFormed m → refusal m e ≡ None → WellFormed (after m e)

@@ -1,44 +1,39 @@
 -- Invariants that each change of the machine preserves.
-use Rattle.std.proofs.Common.{◌≡◌, ℕ, suc, ℤ, pos, negsuc, Bool, true, false, refl, sym, ◌∙◌, ap, subst, [], ◌∷◌, ◌++◌, length, drop, ◌+◌, ◌*◌, ◌%◌, ◌<◌, ◌≤◌, ◌^◌, length-append, length-set, arith}
+use Rattle.std.proofs.Common.{◌≡◌, ℕ, Bool, true, false, refl, sym, ◌∙◌, ap, subst, [], ◌∷◌, ◌++◌, length, ◌+◌, ◌*◌, ◌%◌, ◌<◌, ◌≤◌, ◌^◌, length-append, length-set, arith}
 use Rattle.std.proofs.lemmas.List.{length-drop}
 use Rattle.std.proofs.lemmas.List.Elements.{filter_map-append}
-use Rattle.std.specs.Prelude.{List, Option, Some, None, option_map, nat_lt, nat_le, slice_get, slice_set, not, ◌==◌, ◌&&◌, ◌||◌, if◌then◌else◌}
-use Rattle.std.specs.List.{cons_option}
+use Rattle.std.specs.Prelude.{List, Option, Some, None, slice_get, slice_set, not, ◌&&◌, if◌then◌else◌}
 use Rattle.std.specs.Option.{option_map_or}
-use Rattle.std.proofs.lemmas.Bool.{eqb-true, lt-leb}
-use Rattle.std.proofs.lemmas.Bool.Decides.{nat_tests}
-use Rattle.model_files.specs.declared.descriptor.DescriptorState.{DescriptorState}
-use Rattle.model_files.specs.Worlds.{WorldState, WorldFormed, descriptor_of, descriptor_at, OneSetup as OneWorldSetup}
-use Rattle.opcodes.specs.Opcodes.{uses_descriptor, fits_end}
+use Rattle.std.proofs.lemmas.Bool.{eqb-true}
+use Rattle.model_files.specs.Worlds.{WorldState, WorldFormed, descriptor_at, OneSetup as OneWorldSetup}
+use Rattle.opcodes.specs.Opcodes.{uses_descriptor}
 use Rattle.entries.specs.declared.completion.Cqe.{Cqe}
 use Rattle.entries.specs.declared.entry.Sqe.{Sqe}
 use Rattle.entries.specs.declared.row.Row.{Row}
 use Rattle.entries.specs.declared.row.Phase.{Phase}
-use Rattle.entries.specs.declared.row.Phase.TheVariants.{Queued, Issued, Ended}
+use Rattle.entries.specs.declared.row.Phase.TheVariants.{Queued}
 use Rattle.places.specs.Lists.{updated}
 use Rattle.places.proofs.ListLemmas.{length-updated}
 use Rattle.ring_words.specs.Rings.{waiting, with_flag}
-use Rattle.ring_words.specs.declared.flag.RingFlag.TheVariants.{NeedWakeup, CqOverflow}
-use Rattle.ring_words.proofs.Laws.{formed_pushed, formed_entry, formed_flag, formed_reaped}
-use Rattle.ring_words.proofs.Order.{waiting_less, waiting_more}
-use Rattle.links_drains.specs.Counts.{is_met}
-use Rattle.links_drains.specs.Endings.{Direct, Ending, ended_by}
+use Rattle.ring_words.specs.declared.flag.RingFlag.TheVariants.{CqOverflow}
+use Rattle.ring_words.proofs.Laws.{formed_pushed, formed_entry, formed_flag}
+use Rattle.ring_words.proofs.Order.{waiting_more}
+use Rattle.links_drains.specs.Endings.{Direct, Ending}
 use Rattle.links_drains.specs.Links.{is_guard}
-use Rattle.links_drains.specs.Numbered.{map_numbered}
 use Rattle.links_drains.specs.Phases.{is_ended, is_queued}
 use Rattle.links_drains.proofs.Counting.{counted-le-length, counted-unfinished, ended-unfinished}
 use Rattle.links_drains.specs.Phases.{ended_of}
 use Rattle.model_files.specs.Worlds.{PutsWithin}
-use Rattle.overflow.specs.Backlogs.{BacklogState, is_clear, fits, Delivery, DeliveryFormed, all_posted, flushed as flushed_delivery}
+use Rattle.overflow.specs.Backlogs.{BacklogState, is_clear, Delivery, DeliveryFormed, all_posted, flushed as flushed_delivery}
 use Rattle.overflow.proofs.KeptInOrder.{posted_formed, flushed_formed}
 use Rattle.timeouts_cancel.specs.Cascades.{counted_in}
 use Rattle.timeouts_cancel.proofs.Tallying.{few_counted}
-use Rattle.machine.specs.Steps.{all_ended, all_started, completion_of, completions_of, delivery, flushed, held_by, is_guard_of, is_usable, lacks_descriptor, number_in, posted, started, started_with}
-use Rattle.machine.specs.Whole.{AllGuardsLinked, Mostly, NoneMet, is_asleep, flag_word, HoldsDescriptor, RowFormed, WellFormed, ThreadWellFormed}
+use Rattle.machine.specs.Steps.{all_ended, all_started, completion_of, completions_of, delivery, flushed, is_guard_of, is_usable, lacks_descriptor, posted, started}
+use Rattle.machine.specs.Whole.{AllGuardsLinked, Mostly, NoneMet, is_asleep, flag_word, RowFormed, WellFormed, ThreadWellFormed}
 use Rattle.machine.specs.declared.whole.Machine.{Machine}
 use Rattle.links_drains.proofs.Chains.{chained-updated}
 use Rattle.machine.proofs.EndedRows.{CanEnd, can_end, can_end_most, ended_together}
-use Rattle.machine.proofs.FormedRows.{FormedRows, deadline_timed, formed_rows-updated, formed_rows-moved}
+use Rattle.machine.proofs.FormedRows.{FormedRows, formed_rows-updated, formed_rows-moved}
 use Rattle.machine.proofs.GuardLemmas.{apart, guard_is_guard_of, started_guards, started_in_turn}
 use Rattle.machine.proofs.IssuingRows.{started_at_once}
 use Rattle.links_drains.proofs.EndingRows.{mapped_at}
@@ -61,16 +56,6 @@ overflow_flag false true true = refl
 overflow_flag false true false = refl
 overflow_flag false false true = refl
 overflow_flag false false false = refl
-
-pub wakeup_flag : (a b c : Bool) → with_flag (flag_word a b) NeedWakeup c ≡ flag_word c b
-wakeup_flag true true true = refl
-wakeup_flag true true false = refl
-wakeup_flag true false true = refl
-wakeup_flag true false false = refl
-wakeup_flag false true true = refl
-wakeup_flag false true false = refl
-wakeup_flag false false true = refl
-wakeup_flag false false false = refl
 
 -- The parts that receive completions are well formed.
 pub delivers : (m : Machine) → Mostly m → DeliveryFormed (delivery m)
@@ -107,18 +92,11 @@ formed_flushed m h = formed_of (flushed m) (mostly_flushed m (mostly m h)) h.put
 -- A completion for each request of the list at most.
 pub completions_most : (rows : List Row) (es : List Ending) → length (completions_of rows es) ≤ length es
 completions_most rows [] = omega arith
-completions_most rows (e ∷ es) = by (option_map (completion_of e.1) (slice_get rows e.0)) (completions_most rows es)
-  where
-    by : (o : Option Cqe) → length (completions_of rows es) ≤ length es → length (cons_option o (completions_of rows es)) ≤ suc (length es)
-    by None h = omega (arith, h)
-    by (Some c) h = omega (arith, h)
+completions_most rows (e ∷ es) = grind (arith, completions_most rows es)
 
 -- The list has one more request.
 pub completions_more : (rows : List Row) (es : List Ending) (p : Ending) (row : Row) (c : Cqe) → slice_get rows p.0 ≡ Some row → c ≡ completion_of p.1 row → completions_of rows es ++ c ∷ [] ≡ completions_of rows (es ++ p ∷ [])
-completions_more rows es p row c there is =
-    ap (λ x. completions_of rows es ++ x ∷ []) is
-    ∙ ap (λ o. completions_of rows es ++ cons_option (option_map (completion_of p.1) o) []) (sym there)
-    ∙ sym (filter_map-append (λ (e : Ending). option_map (completion_of e.1) (slice_get rows e.0)) es (p ∷ []))
+completions_more = grind (arith, filter_map-append)
 
 pub only_ending : (es : List Ending) (p : Ending) → length es ≡ 1 → slice_get es 0 ≡ Some p → es ≡ p ∷ []
 only_ending [] p l h = absurd cc
@@ -130,29 +108,11 @@ pub room_for_endings : (m : Machine) (es : List Ending) → Mostly m → Direct 
 room_for_endings m es h d = let k = can_end_most m.table es (can_end m.table es d) in let a = h.kept.overflowed in let b = h.table.few in omega (arith, k, a, b)
 
 pub counts_of_endings : (m : Machine) (es : List Ending) → Mostly m → Direct m.table es → m.counted + counted_in m.table es < 2 ^ 32
-counts_of_endings m es h d =
-    let k = room_for_endings m es h d in
-    let a = counted-le-length m.table in
-    let b = few_counted m.table es in
-    let c = h.table.few in
-    let e = h.table.counted in
-    omega (arith, k, a, b, c, e)
-
--- Completions are posted, the phases set, and the count raised.
-pub ended_after : (m y : Machine) (es : List Ending) (rows : List Row) (n : ℕ) → y ≡ posted m (completions_of m.table es) → rows ≡ map_numbered (ended_by es) y.table → n ≡ counted_in m.table es → record y { table = rows; counted = y.counted + n } ≡ all_ended m es
-ended_after m y es rows n posts ends counts =
-    ap (λ r. made y r n) ends ∙ ap (made y (map_numbered (ended_by es) y.table)) counts ∙ ap (λ (z : Machine). made z (map_numbered (ended_by es) z.table) (counted_in m.table es)) posts
-  where
-    made : Machine → List Row → ℕ → Machine
-    made z r k = record z { table = r; counted = z.counted + k }
+counts_of_endings = grind (arith, room_for_endings, counted-le-length, few_counted)
 
 -- Each completion adds at most one item to the backlog.
 items_most : (d : Delivery) (cs : List Cqe) → length (all_posted d cs).backlog.items ≤ length d.backlog.items + length cs
-items_most d cs =
-    let n = fits d.completions d.backlog (length cs) in
-    let a = length-append d.backlog.items (drop n cs) in
-    let b = length-drop n cs in
-    omega (arith, a, b)
+items_most = grind (arith, length-append, length-drop)
 
 pub mostly_ended : (m : Machine) (es : List Ending) → Mostly m → CanEnd m.table es → Mostly (all_ended m es)
 mostly_ended m es h k =
@@ -184,58 +144,12 @@ mostly_ended m es h k =
 
 -- ---- A request is issued
 
--- A request that lacks no descriptor holds one once it is issued.
-issued_holds : (w : WorldState) (x : Row) → lacks_descriptor w x ≡ false → uses_descriptor x.entry.opcode ≡ true → HoldsDescriptor w (record x { phase = Issued; held = held_by x })
-issued_holds w x l u = by x.entry.fd refl
-  where
-    usable : is_usable x (descriptor_at w x.entry.fd) ≡ true
-    usable = at (is_usable x (descriptor_at w x.entry.fd)) refl
-      where
-        at : (b : Bool) → is_usable x (descriptor_at w x.entry.fd) ≡ b → is_usable x (descriptor_at w x.entry.fd) ≡ true
-        at true e = e
-        at false e = absurd (let o = sym (ap (λ b. b && not (is_usable x (descriptor_at w x.entry.fd))) u) ∙ l in let p = ap not (sym e) ∙ o in cc)
-
-    fits : (fd : ℕ) → x.entry.fd ≡ pos fd → (o : Option DescriptorState) → descriptor_of w fd ≡ o → is_usable x o ≡ true → HoldsDescriptor w (record x { phase = Issued; held = held_by x })
-    fits fd e None g k = absurd cc
-    fits fd e (Some d) g k = record { fd = fd; held = ap (λ b. if b then number_in x.entry.fd else None) u ∙ ap number_in e; named = e; descriptor = d; there = g; fits = second d.is_open (fits_end x.entry.opcode d.end) k }
-      where
-        second : (a b : Bool) → (a && b) ≡ true → b ≡ true
-        second true b h = h
-        second false b h = absurd cc
-
-    by : (n : ℤ) → x.entry.fd ≡ n → HoldsDescriptor w (record x { phase = Issued; held = held_by x })
-    by (pos fd) e = fits fd e (descriptor_of w fd) refl (sym (ap (λ n. is_usable x (descriptor_at w n)) e) ∙ usable)
-    by (negsuc n) e = absurd (let k = sym (ap (λ n. is_usable x (descriptor_at w n)) e) ∙ usable in cc)
-
 -- An issued request is well formed.
 started_row : (w : WorldState) (c n : ℕ) (x : Row) → is_ended x.phase ≡ false → lacks_descriptor w x ≡ false → RowFormed w x → RowFormed w (started c n x)
-started_row w c n x q l h = record {
-  opcode = λ u. h.opcode (ap not q);
-  holds = λ i u. let d = issued_holds w x l u in record { fd = d.fd; held = d.held; named = d.named; descriptor = d.descriptor; there = d.there; fits = d.fits };
-  holds_none = λ i u. ap (λ b. if b then number_in x.entry.fd else None) u;
-  not_yet_held = λ z. absurd cc;
-  not_yet_due = λ z. absurd cc;
-  time = λ u. h.time (ap not q);
-  timed = λ u. h.timed (ap not q);
-  due = λ i. deadline_timed c x;
-}
+started_row = grind arith
 
 mostly_started : (m : Machine) (r c n : ℕ) (x : Row) → Mostly m → slice_get m.table r ≡ Some x → is_ended x.phase ≡ false → Mostly (record m { table = updated (started c n) m.table r })
-mostly_started m r c n x h e q = record {
-  rings = h.rings;
-  kept = record {
-    front = h.kept.front;
-    overflowed = let a = ended-unfinished (started c n) m.table r x e q refl in let b = h.kept.overflowed in omega (arith, a, b);
-  };
-  table = record {
-    few = let a = length-updated (started c n) m.table r in let b = h.table.few in omega (arith, a, b);
-    chained = chained-updated (started c n) m.table r (λ y. refl) h.table.chained;
-    counted = h.table.counted ∙ sym (counted-unfinished (started c n) m.table r x e q refl);
-  };
-  world = h.world;
-  clock = h.clock;
-  threads = h.threads;
-}
+mostly_started = grind (arith, ended-unfinished, length-updated, chained-updated, counted-unfinished)
 
 -- After a request was issued, no more have completed, and all are well formed.
 record Started (m : Machine) (rows : List Row) : Type 0 where
@@ -260,30 +174,11 @@ guard_lacks_none : (w : WorldState) (y : Row) → is_guard y ≡ true → lacks_
 guard_lacks_none w y g = ap (λ n. uses_descriptor n && not (is_usable y (descriptor_at w y.entry.fd))) (eqb-true y.entry.opcode 15 g)
 
 queued_not_ended : (p : Phase) → is_queued p ≡ true → is_ended p ≡ false
-queued_not_ended Queued h = refl
-queued_not_ended Issued h = absurd cc
-queued_not_ended (Ended n) h = absurd cc
-
--- A TIMEOUT counts completions from when it is issued.
-started_alone_unmet : (c n : ℕ) (x : Row) → is_met n (started c n x) ≡ false
-started_alone_unmet c n x = by (x.entry.opcode == 11) (nat_lt 0 x.entry.off) refl
-  where
-    by : (a b : Bool) → nat_lt 0 x.entry.off ≡ b → ((a && b) && nat_le ((if a then n else x.base) + x.entry.off) n) ≡ false
-    by true true k = let l : 0 < x.entry.off = grind (arith, nat_tests, k) in lt-leb (n + x.entry.off) n (omega (arith, l))
-    by true false k = refl
-    by false b k = refl
+queued_not_ended = grind arith
 
 -- So issuing one leaves no issued TIMEOUT that has reached its count.
 started_unmet : (c n : ℕ) (rows : List Row) (r : ℕ) → NoneMet n rows → NoneMet n (all_started c n rows r)
-started_unmet c n rows r h i y e = at (slice_get rows i) refl (sym (mapped_at (started_with c n r) rows i) ∙ e)
-  where
-    by : (x : Row) → slice_get rows i ≡ Some x → (b : Bool) → is_met n (if b then started c n x else x) ≡ false
-    by x g true = started_alone_unmet c n x
-    by x g false = h i x g
-
-    at : (o : Option Row) → slice_get rows i ≡ o → option_map (λ row. started_with c n r i row) o ≡ Some y → is_met n y ≡ false
-    at None g k = absurd cc
-    at (Some x) g k = let same : started_with c n r i x ≡ y = cc in ap (is_met n) (sym same) ∙ by x g ((i == r) || is_guard_of r x)
+started_unmet = grind (arith, mapped_at)
 
 issued_in_turn : (m : Machine) (r : ℕ) (x : Row) → WellFormed m → slice_get m.table r ≡ Some x → x.phase ≡ Queued → is_guard x ≡ false → lacks_descriptor m.world x ≡ false → WellFormed (record m { table = started_in_turn m.clock m.counted m.table r })
 issued_in_turn m r x h e q plain l = by (slice_get m.table (r + 1)) refl
@@ -354,54 +249,7 @@ formed_put m slot entry h = record {
 
 pub formed_push : (m : Machine) (x : ℕ) → WellFormed m → x < 2 ^ 32 → waiting m.submissions.head m.submissions.tail < length m.submissions.array
     → WellFormed (record m { submissions = record m.submissions { tail = (m.submissions.tail + 1) % 2 ^ 32; array = slice_set m.submissions.array (m.submissions.tail % length m.submissions.array) x } })
-formed_push m x h b l = record {
-  mostly = record {
-    rings = record {
-      submissions = formed_pushed m.submissions x h.mostly.rings.submissions b;
-      completions = h.mostly.rings.completions;
-      entries_wait =
-          let f = h.mostly.rings.submissions in
-          let most = f.size.most in
-          let a = waiting_more m.submissions.head m.submissions.tail (length m.submissions.array) f.head f.tail (omega (arith, most)) l in
-          let n = length-set m.submissions.array (m.submissions.tail % length m.submissions.array) x in
-          rw (n, a) (omega (arith, l));
-      completions_wait = h.mostly.rings.completions_wait;
-      flags = h.mostly.rings.flags;
-    };
-    kept = h.mostly.kept;
-    table = h.mostly.table;
-    world = h.mostly.world;
-    clock = h.mostly.clock;
-    threads = h.mostly.threads;
-  };
-  rows = h.rows;
-  guards = h.guards;
-  unmet = h.unmet;
-  puts = h.puts;
-}
+formed_push = grind (arith, mostly, formed_pushed, waiting_more, length-set)
 
 pub formed_taken_out : (m : Machine) → WellFormed m → 0 < waiting m.completions.head m.completions.tail → WellFormed (record m { completions = record m.completions { head = (m.completions.head + 1) % 2 ^ 32 } })
-formed_taken_out m h l = record {
-  mostly = record {
-    rings = record {
-      submissions = h.mostly.rings.submissions;
-      completions = formed_reaped m.completions h.mostly.rings.completions;
-      entries_wait = h.mostly.rings.entries_wait;
-      completions_wait =
-          let f = h.mostly.rings.completions in
-          let a = waiting_less m.completions.head m.completions.tail f.head f.tail l in
-          let b = h.mostly.rings.completions_wait in
-          omega (arith, a, b);
-      flags = h.mostly.rings.flags;
-    };
-    kept = h.mostly.kept;
-    table = h.mostly.table;
-    world = h.mostly.world;
-    clock = h.mostly.clock;
-    threads = h.mostly.threads;
-  };
-  rows = h.rows;
-  guards = h.guards;
-  unmet = h.unmet;
-  puts = h.puts;
-}
+formed_taken_out = grind arith

@@ -1,16 +1,14 @@
 -- Invariants that a submission preserves.
-use Rattle.std.proofs.Common.{◌≡◌, ℕ, ℤ, Bool, true, false, refl, sym, ◌∙◌, ap, subst, List, ◌++◌, length, ◌+◌, ◌*◌, ◌-◌, ◌%◌, ◌<◌, ◌≤◌, ◌^◌, ◌⊎◌, inl, inr, length-append, length-take, arith}
-use Rattle.std.specs.Prelude.{Option, Some, None, is_none, slice_get, nat_lt, if◌then◌else◌}
-use Rattle.std.specs.List.{prefix_len}
+use Rattle.std.proofs.Common.{◌≡◌, ℕ, ℤ, Bool, true, refl, sym, ◌∙◌, ap, subst, List, ◌++◌, length, ◌+◌, ◌*◌, ◌%◌, ◌<◌, ◌≤◌, ◌^◌, ◌⊎◌, inl, inr, length-append, length-take, arith}
+use Rattle.std.specs.Prelude.{Option, Some, None, slice_get}
 use Rattle.entries.specs.declared.entry.Sqe.{Sqe}
-use Rattle.std.proofs.lemmas.Bool.Decides.{nat_tests}
 use Rattle.std.proofs.lemmas.Grind.{common_steps}
 use Rattle.std.proofs.lemmas.Option.{gets}
 use Rattle.entries.specs.declared.row.Row.{Row}
 use Rattle.ring_words.specs.Rings.{SubWords, SubFormed, waiting, sub_list}
 use Rattle.ring_words.proofs.Laws.{formed_taken, sub_length}
 use Rattle.ring_words.proofs.Order.{waiting_after}
-use Rattle.links_drains.specs.Batches.{errors_of, halts, rows_of, direct_of, taken_of}
+use Rattle.links_drains.specs.Batches.{rows_of, direct_of, taken_of}
 use Rattle.links_drains.specs.Endings.{result_in, Direct}
 use Rattle.model_files.specs.Worlds.{PutsWithin, WorldState}
 use Rattle.opcodes.proofs.Counting.{puts_more}
@@ -22,8 +20,8 @@ use Rattle.links_drains.proofs.Chains.{chained-batch, get-appended}
 use Rattle.links_drains.proofs.Counting.{counted-append, ended-append}
 use Rattle.links_drains.proofs.DirectPairs.{direct-batch, unlisted_passes}
 use Rattle.timeouts_cancel.specs.Cascades.{GuardsAreLinked}
-use Rattle.machine.specs.Submission.{offered, offered_entries, taken_words, taken_entries, up_to_entry}
-use Rattle.machine.specs.Steps.{entries_for, taken, submitted, words_for}
+use Rattle.machine.specs.Submission.{offered, taken_words, taken_entries}
+use Rattle.machine.specs.Steps.{entries_for, taken, submitted}
 use Rattle.machine.specs.Whole.{GuardIsLinked, Mostly, RowFormed, WellFormed}
 use Rattle.machine.specs.declared.whole.Machine.{Machine}
 use Rattle.machine.proofs.FormedMachines.{mostly}
@@ -38,22 +36,14 @@ pub length-offered : (w : SubWords) (k : ℕ) → SubFormed w → length (offere
 length-offered w k f = let a = length-take k (sub_list w) in let b = sub_length w f in omega (arith, a, b)
 
 pub length-taken_words : (b : Bool) (v : WorldState) (w : SubWords) (k : ℕ) → length (taken_words b v w k) ≤ length (offered w k)
-length-taken_words b v w k = by (halts b v (offered_entries w k))
-  where
-    by : (c : Bool) → length (if c then up_to_entry w.slots (length (taken_entries b v w k)) (offered w k) else offered w k) ≤ length (offered w k)
-    by true = length-up_to_entry w.slots (length (taken_entries b v w k)) (offered w k)
-    by false = omega arith
+length-taken_words = grind (arith, length-up_to_entry)
 
 -- At most as many entries are taken as are offered.
 length-taken_of : (b : Bool) (v : WorldState) (es : List Sqe) → length (taken_of b v es) ≤ length es
-length-taken_of true v es = omega arith
-length-taken_of false v es = let a = length-take (prefix_len is_none (errors_of v es) + 1) es in omega (arith, a)
+length-taken_of = grind (arith, length-take)
 
 pub length-taken_entries : (b : Bool) (v : WorldState) (w : SubWords) (k : ℕ) → length (taken_entries b v w k) ≤ length (offered w k)
-length-taken_entries b v w k =
-    let a = length-taken_of b v (offered_entries w k) in
-    let c = length-entries_at w.slots (offered w k) in
-    omega (arith, a, c)
+length-taken_entries = grind (arith, length-taken_of, length-entries_at)
 
 pub waits_after : (h t k n : ℕ) → h < 2 ^ 32 → t < 2 ^ 32 → k ≤ waiting h t → waiting h t ≤ n → waiting ((h + k) % 2 ^ 32) t ≤ n
 waits_after h t k n a b c d = let e = waiting_after h t k a b c in omega (arith, e, d)
@@ -64,50 +54,11 @@ below_wrap n = omega arith
 -- ---- The machine with the requests of a batch
 
 pub mostly_taken : (m : Machine) (k : ℕ) → Mostly m → length m.table + length (offered m.submissions k) ≤ 65536 → Mostly (taken m k)
-mostly_taken m k h l = record {
-  rings = record {
-    submissions = formed_taken m.submissions _ _ h.rings.submissions (below_wrap _) (below_wrap _);
-    completions = h.rings.completions;
-    entries_wait = waits_after m.submissions.head m.submissions.tail (length (words_for m k)) (length m.submissions.array) h.rings.submissions.head h.rings.submissions.tail (within (length-taken_words m.submit_all m.world m.submissions k) (length-offered m.submissions k h.rings.submissions)) h.rings.entries_wait;
-    completions_wait = h.rings.completions_wait;
-    flags = h.rings.flags;
-  };
-  kept = record {
-    front = h.kept.front;
-    overflowed = let a = ended-append m.table (rows_of m.world (length m.table) (entries_for m k)) in let b = h.kept.overflowed in omega (arith, a, b);
-  };
-  table = record {
-    few = count (length-append m.table (rows_of m.world (length m.table) (entries_for m k))) (length-rows_of m.world (length m.table) (entries_for m k)) (length-taken_entries m.submit_all m.world m.submissions k);
-    chained = chained-batch m.world m.table (entries_for m k) h.table.chained;
-    counted = h.table.counted ∙ more (counted-append m.table (rows_of m.world (length m.table) (entries_for m k))) (counted-rows_of m.world (length m.table) (entries_for m k));
-  };
-  world = h.world;
-  clock = h.clock;
-  threads = h.threads;
-}
-  where
-    within : {a b c : ℕ} → a ≤ b → b ≤ c → a ≤ c
-    within x y = omega arith
-
-    count : {a b c : ℕ} → a ≡ length m.table + b → b ≡ c → c ≤ length (offered m.submissions k) → a ≤ 65536
-    count x y z = omega (arith, x, y, z, l)
-
-    more : {a b c : ℕ} → a ≡ b + c → c ≡ 0 → b ≡ a
-    more x y = omega arith
+mostly_taken = grind (arith, formed_taken, below_wrap, waits_after, length-taken_words, length-offered, ended-append, length-append, length-rows_of, length-taken_entries, chained-batch, counted-append, counted-rows_of)
 
 -- A request was there before, or belongs to the batch.
 pub old_or_new : (rows more : List Row) (j : ℕ) (y : Row) → slice_get (rows ++ more) j ≡ Some y → (slice_get rows j ≡ Some y) ⊎ ((i : ℕ) × (j ≡ length rows + i) × (slice_get more i ≡ Some y))
-old_or_new rows more j y h = by (nat_lt j (length rows)) refl
-  where
-    by : (b : Bool) → nat_lt j (length rows) ≡ b → (slice_get rows j ≡ Some y) ⊎ ((i : ℕ) × (j ≡ length rows + i) × (slice_get more i ≡ Some y))
-    by true k = let l : j < length rows = grind (arith, nat_tests, k) in inl (sym (before l) ∙ h)
-      where
-        before : j < length rows → slice_get (rows ++ more) j ≡ slice_get rows j
-        before l = grind (arith, common_steps, gets)
-    by false k =
-        let l : length rows ≤ j = grind (arith, nat_tests, k) in
-        let m : j ≡ length rows + (j - length rows) = omega (arith, l) in
-        inr (j - length rows, m, sym (get-appended rows more (j - length rows)) ∙ ap (slice_get (rows ++ more)) (sym m) ∙ h)
+old_or_new = grind (arith, common_steps, gets, get-appended)
 
 -- The requests of a batch that don't complete at once are well formed.
 pub formed_submitted : (m : Machine) (k : ℕ) → WellFormed m → length m.table + length (offered m.submissions k) ≤ 65536 → WellFormed (submitted m k)

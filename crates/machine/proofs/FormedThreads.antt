@@ -8,38 +8,19 @@ use Rattle.places.specs.Lists.{updated}
 use Rattle.places.specs.declared.value.Stage.{Stage}
 use Rattle.places.specs.declared.value.Stage.TheVariants.{Ready, Waiting}
 use Rattle.machine.specs.Threads.{ThreadState}
-use Rattle.machine.specs.Whole.{WellFormed, ThreadWellFormed, Waits}
+use Rattle.machine.specs.Whole.{WellFormed, ThreadWellFormed}
 use Rattle.scenario.specs.declared.setup.Instruction.{Instruction}
 use Rattle.scenario.specs.declared.setup.Instruction.TheVariants.{Enter}
 use Rattle.machine.specs.declared.whole.Machine.{Machine}
 use Rattle.machine.proofs.ListsChanged.{updated_get}
 
--- A ready thread doesn't wait.
-waits_not : (x : ThreadState) → x.stage ≡ Ready → (n w : ℕ) → x.stage ≡ Waiting n w → Waits x n w
-waits_not x r n w e = absurd (let k = sym r ∙ e in cc)
-
 -- A thread that has an instruction advances.
 pub well_formed_on : (size : ℕ) (x : ThreadState) (i : Instruction) (stage : Stage) (n : ℤ) (got : Option Cqe) → ThreadWellFormed size x → slice_get x.program x.counter ≡ Some i → stage ≡ Ready → FitsSigned w64 n → ThreadWellFormed size (record x { counter = x.counter + 1; stage = stage; last = n; got = got })
-well_formed_on size x i stage n got s h r l = record {
-  within = let k = slice_get_within x.program x.counter i h in omega (arith, k);
-  program = s.program;
-  last = l;
-  waits = waits_not (record x { counter = x.counter + 1; stage = stage; last = n; got = got }) r;
-}
+well_formed_on = grind (arith, slice_get_within)
 
 -- A thread that is at an Enter waits there.
 pub well_formed_held : (size : ℕ) (x : ThreadState) (n w to_submit min_complete flags : ℕ) → ThreadWellFormed size x → slice_get x.program x.counter ≡ Some (Enter to_submit min_complete flags) → n < 2 ^ 32 → w < 2 ^ 32 → ThreadWellFormed size (record x { stage = Waiting n w })
-well_formed_held size x n w to_submit min_complete flags s g a b = record { within = s.within; program = s.program; last = s.last; waits = held }
-  where
-    held : (m v : ℕ) → Waiting n w ≡ Waiting m v → Waits (record x { stage = Waiting n w }) m v
-    held m v e = record {
-      submitted = let k : n ≡ m = cc in omega (arith, k, a);
-      needed = let k : w ≡ v = cc in omega (arith, k, b);
-      to_submit = to_submit;
-      min_complete = min_complete;
-      flags = flags;
-      enter = g;
-    }
+well_formed_held = grind arith
 
 -- One thread changes.
 pub well_formed_updated : (size : ℕ) (ts : List ThreadState) (f : ThreadState → ThreadState) (t : ℕ) (x : ThreadState) → ((j : ℕ) (y : ThreadState) → slice_get ts j ≡ Some y → ThreadWellFormed size y) → slice_get ts t ≡ Some x → ThreadWellFormed size (f x)

@@ -1,14 +1,12 @@
 -- Accepted events preserve the setup, and remove no request and no item of the backlog.
-use Rattle.std.proofs.Common.{◌≡◌, ℕ, ℤ, pos, negsuc, Bool, true, false, refl, sym, ap, List, [], ◌∷◌, ◌++◌, length, map, take, drop, ◌+◌, ◌%◌, ◌≤◌, arith, length-set, length-append, le_refl}
-use Rattle.std.specs.Prelude.{Option, Some, None, is_some, min, slice_get, nat_lt, ◌==◌, ◌&&◌, ◌||◌, if◌then◌else◌}
+use Rattle.std.proofs.Common.{◌≡◌, ℕ, ℤ, pos, negsuc, Bool, true, false, refl, ap, List, [], ◌∷◌, ◌++◌, length, map, ◌+◌, ◌≤◌, arith, length-set, length-append, le_refl}
+use Rattle.std.specs.Prelude.{Option, Some, None, is_some, slice_get, nat_lt, ◌==◌, ◌||◌, if◌then◌else◌}
 use Rattle.entries.specs.declared.completion.Cqe.{Cqe}
 use Rattle.entries.specs.declared.row.Row.{Row}
-use Rattle.entries.specs.declared.row.Phase.TheVariants.{Ended}
 use Rattle.places.specs.Lists.{updated}
 use Rattle.places.specs.declared.value.Stage.{Stage}
 use Rattle.places.specs.declared.value.Stage.TheVariants.{Ready, Waiting}
-use Rattle.model_files.specs.Worlds.{WorldState, descriptor_of, world_closed, world_stored, OneSetup as OneWorldSetup}
-use Rattle.links_drains.specs.Endings.{ended_by, result_in}
+use Rattle.model_files.specs.Worlds.{WorldState, descriptor_of, world_closed, OneSetup as OneWorldSetup}
 use Rattle.links_drains.specs.Holding.{is_held_by}
 use Rattle.links_drains.specs.Rows.{fixed_of}
 use Rattle.entries.specs.declared.choice.Choice.{Choice}
@@ -20,16 +18,14 @@ use Rattle.opcodes.specs.Effects.{world_after}
 use Rattle.machine.proofs.PipeCounts.{puts_fit}
 use Rattle.opcodes.proofs.Staying.{stays_after}
 use Rattle.links_drains.specs.Batches.{rows_of, direct_of}
-use Rattle.overflow.specs.Backlogs.{fits, kept, free_slots}
 use Rattle.overflow.proofs.Posting.{posted_slots}
 use Rattle.sqpoll.specs.declared.poller.Poller.{Poller}
-use Rattle.sqpoll.specs.declared.poller.Poller.TheVariants.{Awake, Asleep}
+use Rattle.sqpoll.specs.declared.poller.Poller.TheVariants.{Asleep}
 use Rattle.model_files.proofs.Fixing as worlds
 use Rattle.machine.specs.Cancels.{verdict_of, ending_with}
 use Rattle.machine.specs.Submission.{einval, ebusy, ebadf}
 use Rattle.timeouts_cancel.specs.Cascades.{fall_of}
-use Rattle.std.specs.Option.{option_map_or}
-use Rattle.machine.specs.Steps.{refusal, sleep_refusal, after, resumed, stepped, executed, entered, entered_without_poller, entered_with_poller, submitting, before_submission, is_busy, is_unknown, gets_events, wakes, woken, shown, awaited, ready_count, held_back, with_poller, closed, is_open, posted, flushed, completions_of, all_ended, cascaded, taken, submitted, answered, issued, cancelled, finished, finished_as, lacks_descriptor, all_started, entries_for, expired, expiring, is_guard_of, started, started_with, waiting_target}
+use Rattle.machine.specs.Steps.{refusal, after, resumed, stepped, executed, entered, entered_without_poller, entered_with_poller, submitting, before_submission, is_busy, is_unknown, gets_events, woken, shown, awaited, with_poller, closed, is_open, posted, flushed, all_ended, cascaded, taken, submitted, answered, issued, cancelled, finished, finished_as, lacks_descriptor, all_started, entries_for, expired, expiring, is_guard_of, started, started_with, waiting_target}
 use Rattle.machine.specs.Threads.{ThreadState, program_of}
 use Rattle.machine.specs.Whole.{Grows, WellFormed}
 use Rattle.scenario.specs.declared.setup.Instruction.{Instruction}
@@ -39,53 +35,26 @@ use Rattle.scenario.specs.declared.event.Event.{Event}
 use Rattle.scenario.specs.declared.event.Event.TheVariants.{Step, Take, Sleep, Issue, Finish, Expire, Tick}
 use Rattle.machine.proofs.ListsChanged.{map_updated}
 use Rattle.machine.proofs.MappedRows.{mapped_length, mapped_stay}
-use Rattle.links_drains.proofs.Remaining.{stay_then, stay_append}
-use Rattle.machine.proofs.Restored.{setup_self, setup_then}
+use Rattle.links_drains.proofs.Remaining.{stay_append}
+use Rattle.machine.proofs.Restored.{setup_self}
+use Rattle.std.proofs.lemmas.Grind.{common_steps}
 
 pub grows_self : (m : Machine) → Grows m m
 grows_self m = record { setup = setup_self m; rows = le_refl _; stay = λ r l. refl; backlog = le_refl _ }
 
 pub grows_then : (a b c : Machine) → Grows a b → Grows b c → Grows a c
-grows_then a b c h k = record {
-  setup = setup_then a b c h.setup k.setup;
-  rows = let x = h.rows in let y = k.rows in omega (arith, x, y);
-  stay = stay_then a.table b.table c.table h.rows h.stay k.stay;
-  backlog = let x = h.backlog in let y = k.backlog in omega (arith, x, y);
-}
+grows_then = grind arith
 
 -- ---- Completions
 
 pub grows_posted : (m : Machine) (cs : List Cqe) → Grows m (posted m cs)
-grows_posted m cs =
-    let n = fits m.completions m.backlog (length cs) in
-    record {
-      setup = record { array = refl; slots = refl; completions = sym (posted_slots m.completions (take n cs)); world = worlds.setup_self _; programs = refl; poller = refl; submit_all = refl };
-      rows = le_refl _;
-      stay = λ r l. refl;
-      backlog = let a = length-append m.backlog.items (drop n cs) in omega (arith, a);
-    }
+grows_posted = grind (arith, posted_slots, setup_self, length-append)
 
 pub grows_flushed : (m : Machine) → Grows m (flushed m)
-grows_flushed m = record {
-  setup = record { array = refl; slots = refl; completions = sym (posted_slots m.completions (take (min (length (kept m.backlog)) (free_slots m.completions)) (kept m.backlog))); world = worlds.setup_self _; programs = refl; poller = refl; submit_all = refl };
-  rows = le_refl _;
-  stay = λ r l. refl;
-  backlog = le_refl _;
-}
+grows_flushed = grind (arith, posted_slots)
 
 pub grows_all_ended : (m : Machine) (es : List (ℕ × ℤ)) → Grows m (all_ended m es)
-grows_all_ended m es =
-    let p = grows_posted m (completions_of m.table es) in
-    record {
-      setup = record { array = refl; slots = refl; completions = p.setup.completions; world = worlds.setup_self _; programs = refl; poller = refl; submit_all = refl };
-      rows = let a = mapped_length (ended_by es) m.table in omega (arith, a);
-      stay = mapped_stay (ended_by es) m.table (λ r row. by row (result_in es r));
-      backlog = p.backlog;
-    }
-  where
-    by : (row : Row) (o : Option ℤ) → fixed_of (option_map_or (λ res. record row { phase = Ended res }) o row) ≡ fixed_of row
-    by row None = refl
-    by row (Some res) = refl
+grows_all_ended = grind (arith, common_steps, grows_posted, setup_self, mapped_length, mapped_stay)
 
 pub grows_cascaded : (m : Machine) (direct : List (ℕ × ℤ)) → Grows m (cascaded m direct)
 unfolding cascaded
@@ -95,12 +64,7 @@ grows_cascaded m direct = grows_all_ended m (fall_of m.table m.counted direct)
 
 -- Requests are added at the end.
 pub grows_more : (m : Machine) (more : List Row) → Grows m (record m { table = m.table ++ more })
-grows_more m more = record {
-  setup = record { array = refl; slots = refl; completions = refl; world = worlds.setup_self _; programs = refl; poller = refl; submit_all = refl };
-  rows = let a = length-append m.table more in omega (arith, a);
-  stay = stay_append m.table more;
-  backlog = le_refl _;
-}
+grows_more = grind (arith, setup_self, length-append, stay_append)
 
 pub grows_taken : (m : Machine) (k : ℕ) → Grows m (taken m k)
 grows_taken m k = record {
@@ -116,42 +80,21 @@ grows_submitted m k = grows_then m (taken m k) (submitted m k) (grows_taken m k)
 -- ---- Threads
 
 pub grows_thread : (m : Machine) (f : ThreadState → ThreadState) (t : ℕ) → ((x : ThreadState) → program_of (f x) ≡ program_of x) → Grows m (record m { threads = updated f m.threads t })
-grows_thread m f t h = record {
-  setup = record { array = refl; slots = refl; completions = refl; world = worlds.setup_self _; programs = map_updated program_of f m.threads t h; poller = refl; submit_all = refl };
-  rows = le_refl _;
-  stay = λ r l. refl;
-  backlog = le_refl _;
-}
+grows_thread = grind (arith, map_updated)
 
 grows_answered : (m : Machine) (t : ℕ) (n : ℤ) → Grows m (answered m t n)
 grows_answered m t n = grows_thread m (λ x. record x { counter = x.counter + 1; last = n; stage = Ready }) t (λ x. refl)
 
 pub grows_awaited : (m : Machine) (t n k w flags : ℕ) → Grows m (awaited m t n k w flags)
-grows_awaited m t n k w flags = by (gets_events flags && ((n == k) && nat_lt (ready_count m) needed))
-  where
-    needed : ℕ
-    needed = min w (length m.completions.slots)
-
-    by : (b : Bool) → Grows m (if b then held_back m t n needed else answered m t (pos n))
-    by true = grows_thread m (λ x. record x { stage = Waiting n needed }) t (λ x. refl)
-    by false = grows_answered m t (pos n)
+grows_awaited = grind (arith, grows_thread)
 
 -- ---- Enter
 
 pub grows_poller : (m : Machine) (p : Poller) → is_some m.poller ≡ true → Grows m (with_poller m p)
-grows_poller m p h = record {
-  setup = record { array = refl; slots = refl; completions = refl; world = worlds.setup_self _; programs = refl; poller = h; submit_all = refl };
-  rows = le_refl _;
-  stay = λ r l. refl;
-  backlog = le_refl _;
-}
+grows_poller = grind arith
 
 pub grows_woken : (m : Machine) (flags : ℕ) → is_some m.poller ≡ true → Grows m (woken m flags)
-grows_woken m flags h = by (wakes flags)
-  where
-    by : (b : Bool) → Grows m (if b then with_poller m Awake else m)
-    by true = grows_poller m Awake h
-    by false = grows_self m
+grows_woken = grind arith
 
 pub grows_shown : (m : Machine) (flags : ℕ) → Grows m (shown m flags)
 grows_shown m flags = by (gets_events flags)
@@ -194,26 +137,14 @@ grows_entered m t k w flags = by m.poller refl
 -- ---- Memory and objects
 
 grows_world : (m : Machine) (w : WorldState) → OneWorldSetup m.world w → Grows m (record m { world = w })
-grows_world m w h = record {
-  setup = record { array = refl; slots = refl; completions = refl; world = h; programs = refl; poller = refl; submit_all = refl };
-  rows = le_refl _;
-  stay = λ r l. refl;
-  backlog = le_refl _;
-}
+grows_world = grind arith
 
 -- The memory or an object changes, and a thread advances.
 pub grows_parts : (m : Machine) (w : WorldState) (ts : List ThreadState) → OneWorldSetup m.world w → map program_of ts ≡ map program_of m.threads → Grows m (record m { world = w; threads = ts })
-grows_parts m w ts h k = record {
-  setup = record { array = refl; slots = refl; completions = refl; world = h; programs = sym k; poller = refl; submit_all = refl };
-  rows = le_refl _;
-  stay = λ r l. refl;
-  backlog = le_refl _;
-}
+grows_parts = grind arith
 
 grows_stored : (m : Machine) (t address : ℕ) (bytes : List ℕ) → WellFormed m → address + length bytes ≤ 65536 → Grows m (executed m t (Some (Store address bytes)))
-grows_stored m t address bytes f l =
-    let stored = record m { world = world_stored address bytes m.world } in
-    grows_then m stored _ (grows_world m (world_stored address bytes m.world) (worlds.setup_stored address bytes m.world f.mostly.world l)) (grows_thread stored (λ x. record x { counter = x.counter + 1 }) t (λ x. refl))
+grows_stored = grind (arith, common_steps, grows_then, grows_world, grows_thread)
 
 pub grows_closed : (m : Machine) (t : ℕ) (fd : ℤ) → Grows m (closed m t fd)
 grows_closed m t (negsuc n) = grows_thread m (λ x. record x { counter = x.counter + 1; last = ebadf; stage = Ready }) t (λ x. refl)
@@ -229,26 +160,11 @@ grows_closed m t (pos fd) = by (is_open (descriptor_of m.world fd))
 
 grows_executed : (m : Machine) (t : ℕ) (x : ThreadState) → WellFormed m → slice_get m.threads t ≡ Some x → (i : Option Instruction) → slice_get x.program x.counter ≡ i → Grows m (executed m t i)
 grows_executed m t x f e None g = grows_self m
-grows_executed m t x f e (Some (Put slot entry)) g = record {
-  setup = record { array = refl; slots = sym (length-set m.submissions.slots slot entry); completions = refl; world = worlds.setup_self _; programs = map_updated program_of _ m.threads t (λ x. refl); poller = refl; submit_all = refl };
-  rows = le_refl _;
-  stay = λ r l. refl;
-  backlog = le_refl _;
-}
-grows_executed m t x f e (Some (Push index)) g = record {
-  setup = record { array = sym (length-set m.submissions.array (m.submissions.tail % length m.submissions.array) index); slots = refl; completions = refl; world = worlds.setup_self _; programs = map_updated program_of _ m.threads t (λ x. refl); poller = refl; submit_all = refl };
-  rows = le_refl _;
-  stay = λ r l. refl;
-  backlog = le_refl _;
-}
+grows_executed m t x f e (Some (Put slot entry)) g = grind (arith, length-set, setup_self, map_updated)
+grows_executed m t x f e (Some (Push index)) g = grind (arith, length-set, setup_self, map_updated)
 grows_executed m t x f e (Some (Store address bytes)) g = grows_stored m t address bytes f ((f.mostly.threads t x e).program.done x.counter (Store address bytes) g)
 grows_executed m t x f e (Some (Enter to_submit min_complete flags)) g = grows_entered m t to_submit min_complete flags
-grows_executed m t x f e (Some Reap) g = record {
-  setup = record { array = refl; slots = refl; completions = refl; world = worlds.setup_self _; programs = map_updated program_of _ m.threads t (λ x. refl); poller = refl; submit_all = refl };
-  rows = le_refl _;
-  stay = λ r l. refl;
-  backlog = le_refl _;
-}
+grows_executed m t x f e (Some Reap) g = grind (arith, setup_self, map_updated)
 grows_executed m t x f e (Some (Close fd)) g = grows_closed m t fd
 
 grows_stepped : (m : Machine) (t : ℕ) → WellFormed m → (o : Option ThreadState) → slice_get m.threads t ≡ o → Grows m (stepped m t o)
@@ -260,11 +176,7 @@ grows_stepped m t f (Some x) e = by x.stage
     by (Waiting n w) = grows_answered m t (pos n)
 
 has_poller : (m : Machine) → refusal m Sleep ≡ None → is_some m.poller ≡ true
-has_poller m h = by m.poller h
-  where
-    by : (o : Option Poller) → sleep_refusal m o ≡ None → is_some o ≡ true
-    by None k = absurd cc
-    by (Some p) k = refl
+has_poller = grind arith
 
 pub grows_issued : (m : Machine) (r : ℕ) (o : Option Row) → Grows m (issued m r o)
 grows_issued m r None = grows_self m

@@ -1,20 +1,18 @@
 -- Linked timeouts come directly after their targets.
 use Rattle.std.proofs.Common.{◌≡◌, ℕ, ℤ, zero, suc, Bool, true, false, not, cond, refl, sym, ◌∙◌, ap, subst, List, [], ◌∷◌, ◌++◌, length, ◌+◌, ◌-◌, inl, inr, arith}
-use Rattle.std.specs.Prelude.{Option, Some, None, option_map, is_none, slice_get, bit_and, ◌==◌, ◌&&◌, if◌then◌else◌}
+use Rattle.std.specs.Prelude.{Option, Some, None, option_map, is_none, slice_get, ◌==◌, ◌&&◌, if◌then◌else◌}
 use Rattle.std.specs.Option.{option_and_then, option_map_or}
 use Rattle.std.specs.Result.{result_err}
-use Rattle.std.specs.List.{list_any, enumerate_from}
 use Rattle.std.proofs.lemmas.Bool.{cases_eq, eq-eqb, eqb-true, ne_eqb}
 use Rattle.entries.specs.declared.entry.Sqe.{Sqe}
 use Rattle.entries.specs.declared.row.Row.{Row}
 use Rattle.entries.specs.declared.row.Phase.{Phase}
-use Rattle.entries.specs.declared.row.Phase.TheVariants.{Queued, Issued, Ended}
+use Rattle.entries.specs.declared.row.Phase.TheVariants.{Queued}
 use Rattle.model_files.specs.Worlds.{WorldState}
-use Rattle.opcodes.specs.declared.op.Op.TheVariants.{LinkTimeout}
-use Rattle.opcodes.specs.Check.{can_guard, check_of, invalid, op_of, refused_flags, row_of, timed}
+use Rattle.opcodes.specs.Check.{can_guard, check_of}
 use Rattle.places.specs.Lists.{updated}
 use Rattle.links_drains.specs.Batches.{previous_in, chain_of, error_at, error_of, row_of as batch_row_of, rows_of, shown_on}
-use Rattle.links_drains.specs.Eligible.{GuardsFollow, is_eligible, may_start, waits_for}
+use Rattle.links_drains.specs.Eligible.{GuardsFollow, is_eligible}
 use Rattle.links_drains.specs.Links.{is_guard, is_linked}
 use Rattle.links_drains.specs.Phases.{is_queued, is_unfinished}
 use Rattle.links_drains.proofs.Chains.{Became, became, get-batch, get-appended}
@@ -52,18 +50,7 @@ guard_before rows more r x s = record { target = s.target; is = s.is; follows = 
 
 -- A valid LINK_TIMEOUT follows an entry with another opcode.
 passes_previous : (w : WorldState) (previous : Option ℕ) (e : Sqe) → e.opcode ≡ 15 → result_err (check_of w previous e) ≡ None → can_guard previous ≡ true
-passes_previous w previous e o h = flags (bit_and e.flags refused_flags == 0) h
-  where
-    op : op_of e.opcode ≡ Some LinkTimeout
-    op = ap op_of o
-
-    both : (a b : Bool) → result_err (if a && b then timed w e LinkTimeout else invalid) ≡ None → a ≡ true
-    both true b k = refl
-    both false b k = absurd cc
-
-    flags : (b : Bool) → result_err (if b then row_of w previous e (op_of e.opcode) else invalid) ≡ None → can_guard previous ≡ true
-    flags true k = both (can_guard previous) (e.off == 0) (sym (ap (λ p. result_err (row_of w previous e p)) op) ∙ k)
-    flags false k = absurd cc
+passes_previous = grind arith
 
 -- The entry before i is linked, and no LINK_TIMEOUT.
 record Before (es : List Sqe) (i : ℕ) : Type 0 where
@@ -165,24 +152,13 @@ pub record IsGuardOf (r : ℕ) (y : Row) : Type 0 where
   pub target : y.target ≡ Some r
 
 pub guard_is_guard_of : (r : ℕ) (y : Row) → is_guard_of r y ≡ true → IsGuardOf r y
-guard_is_guard_of r y h = by (is_guard y) (is_queued y.phase) refl refl h
-  where
-    number : (o : Option ℕ) → option_map_or (λ t. t == r) o false ≡ true → o ≡ Some r
-    number None k = absurd cc
-    number (Some t) k = ap Some (eqb-true t r k)
-
-    by : (a b : Bool) → is_guard y ≡ a → is_queued y.phase ≡ b → (a && (b && option_map_or (λ t. t == r) y.target false)) ≡ true → IsGuardOf r y
-    by true true p q k = record { guard = p; queued = q; target = number y.target k }
-    by true false p q k = absurd cc
-    by false b p q k = absurd cc
+guard_is_guard_of = grind arith
 
 is_guard_from : (r : ℕ) (y : Row) → is_guard y ≡ true → is_queued y.phase ≡ true → y.target ≡ Some r → is_guard_of r y ≡ true
 is_guard_from r y g q t = ap (λ b. b && (is_queued y.phase && option_map_or (λ n. n == r) y.target false)) g ∙ ap (λ b. b && option_map_or (λ n. n == r) y.target false) q ∙ ap (λ o. option_map_or (λ n. n == r) o false) t ∙ eq-eqb r r refl
 
 pub unfinished_queued : (p : Phase) → is_queued p ≡ true → is_unfinished p ≡ true
-unfinished_queued Queued h = refl
-unfinished_queued Issued h = absurd cc
-unfinished_queued (Ended n) h = absurd cc
+unfinished_queued = grind arith
 
 -- The table after request r was issued, and then its queued linked timeout.
 abbrev pub started_in_turn : ℕ → ℕ → List Row → ℕ → List Row
@@ -259,9 +235,4 @@ started_guards c n rows r x h q plain s = by (slice_get rows (r + 1)) refl
 
 -- A request that may be issued is no linked timeout.
 pub eligible_no_guard : (rows : List Row) (r : ℕ) (x : Row) → slice_get rows r ≡ Some x → is_eligible rows r ≡ true → is_guard x ≡ false
-eligible_no_guard rows r x h e = by (is_queued x.phase) (is_guard x) (list_any (λ (p : ℕ × Row). waits_for rows r x p.0 p.1) (enumerate_from 0 rows)) refl (sym (ap (λ o. option_map_or (may_start rows r) o false) h) ∙ e)
-  where
-    by : (a b c : Bool) → is_guard x ≡ b → (a && (not b && not c)) ≡ true → is_guard x ≡ false
-    by true true c k m = absurd cc
-    by true false c k m = k
-    by false b c k m = absurd cc
+eligible_no_guard = grind arith

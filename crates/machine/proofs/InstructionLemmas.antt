@@ -1,6 +1,6 @@
 -- What well-formedness says about a thread's next instruction.
-use Rattle.std.proofs.Common.{◌≡◌, ℕ, refl, sym, ◌∙◌, ap, subst, List, length, ◌+◌, ◌<◌, ◌^◌, arith}
-use Rattle.std.specs.Prelude.{Option, Some, None, slice_get}
+use Rattle.std.proofs.Common.{◌≡◌, ℕ, sym, ◌∙◌, ap, subst, List, length, ◌+◌, ◌<◌, ◌^◌, arith}
+use Rattle.std.specs.Prelude.{Some, slice_get}
 use Rattle.std.proofs.lemmas.Option.{slice_get_within}
 use Rattle.scenario.specs.Programs.{IsDone}
 use Rattle.machine.specs.Threads.{ThreadState}
@@ -11,11 +11,7 @@ use Rattle.machine.specs.declared.whole.Machine.{Machine}
 
 -- There is a thread, whose next instruction this is.
 pub thread_of : (m : Machine) (t : ℕ) (i : Instruction) → next_of (slice_get m.threads t) ≡ Some i → (x : ThreadState) × (slice_get m.threads t ≡ Some x) × (slice_get x.program x.counter ≡ Some i)
-thread_of m t i h = by (slice_get m.threads t) refl h
-  where
-    by : (o : Option ThreadState) → slice_get m.threads t ≡ o → next_of o ≡ Some i → (x : ThreadState) × (slice_get m.threads t ≡ Some x) × (slice_get x.program x.counter ≡ Some i)
-    by None e k = absurd cc
-    by (Some x) e k = (x, e, k)
+thread_of = grind arith
 
 pub thread_there : (m : Machine) (t : ℕ) (i : Instruction) → next_of (slice_get m.threads t) ≡ Some i → t < length m.threads
 thread_there m t i h = let x = thread_of m t i h in slice_get_within m.threads t x.0 x.1

@@ -1,8 +1,8 @@
 -- To issue a request together with its linked timeout is the same as to issue them one after the
 -- other.
-use Rattle.std.proofs.Common.{◌≡◌, ℕ, Bool, true, false, cond, refl, sym, ◌∙◌, ap, List, ◌+◌, inl, inr, arith}
+use Rattle.std.proofs.Common.{◌≡◌, ℕ, Bool, true, false, refl, sym, ◌∙◌, ap, List, ◌+◌, inl, inr, arith}
 use Rattle.std.proofs.lemmas.Bool.{cases_eq, eq-eqb, ne_eqb}
-use Rattle.std.specs.Prelude.{Option, Some, None, option_map, slice_get, ◌==◌, ◌||◌, if◌then◌else◌}
+use Rattle.std.specs.Prelude.{Option, Some, None, option_map, slice_get, ◌||◌, if◌then◌else◌}
 use Rattle.std.specs.Option.{option_map_or}
 use Rattle.entries.specs.declared.row.Row.{Row}
 use Rattle.places.specs.Lists.{updated}
@@ -14,11 +14,7 @@ use Rattle.machine.proofs.GuardLemmas.{apart, guard_is_guard_of, here, started_i
 use Rattle.links_drains.proofs.EndingRows.{mapped_at}
 
 none_changed : (f : Row → Row) (rows : List Row) (r i : ℕ) → slice_get rows i ≡ None → slice_get (updated f rows r) i ≡ None
-none_changed f rows r i h = get-updated f rows r i ∙ ap (λ o. cond (r == i) (option_map f o) o) h ∙ by (r == i)
-  where
-    by : (b : Bool) → cond b (option_map f None) None ≡ None
-    by true = refl
-    by false = refl
+none_changed = grind (arith, get-updated)
 
 pub started_at_once : (c n : ℕ) (rows : List Row) (r : ℕ) → AllGuardsLinked rows → all_started c n rows r ≡ started_in_turn c n rows r
 started_at_once c n rows r s = same_list _ _ (λ i. mapped_at (started_with c n r) rows i ∙ by i (slice_get rows i) refl)

@@ -1,94 +1,42 @@
 -- Changes that a part of the machine records correctly are recorded correctly for the whole
 -- machine.
-use Rattle.std.proofs.Common.{◌≡◌, ℕ, ◌<◌, Bool, true, false, refl, ap, length, List}
-use Rattle.std.specs.Prelude.{Option, Some, unwrap_or, slice_set, if◌then◌else◌}
+use Rattle.std.proofs.Common.{◌≡◌, ℕ, ◌<◌, Bool, true, false, refl, length, List, arith}
+use Rattle.std.specs.Prelude.{Option, Some, slice_set, if◌then◌else◌}
 use Rattle.entries.specs.declared.entry.Sqe.{Sqe}
 use Rattle.entries.specs.declared.row.Row.{Row}
 use Rattle.places.specs.declared.place.Place.{Place}
-use Rattle.places.specs.declared.place.Place.TheVariants.{SubmissionHead, SubmissionTail, SubmissionFlags, SubmissionDropped, CompletionHead, CompletionTail, Array, Slot, Completion, MemoryByte, FileByte, DurableByte, FileLength, DurableLength, Position, OpenMark, PipeByte, PutCount, TakenCount, EventCount, Request, Backlog, BacklogFront, Clock, Counted, ProgramCounter, ThreadStage, Last, Got}
+use Rattle.places.specs.declared.place.Place.TheVariants.{SubmissionHead, SubmissionTail, SubmissionFlags, SubmissionDropped, Array, Slot, MemoryByte, FileByte, DurableByte, FileLength, DurableLength, Position, OpenMark, PipeByte, PutCount, TakenCount, EventCount, Request, Backlog, BacklogFront, Clock, Counted, ProgramCounter, ThreadStage, Last, Got}
 use Rattle.places.specs.declared.value.Value.{Value}
 use Rattle.places.specs.declared.value.Value.TheVariants.{Number, Entry}
 use Rattle.places.specs.declared.value.Change.{Change}
 use Rattle.places.specs.Places.{same_place}
-use Rattle.places.specs.View.{View, undo, put_at, Keeps, Noted}
+use Rattle.places.specs.View.{put_at, Keeps, Noted}
 use Rattle.places.proofs.SamePlace.{same_place_is}
 use Rattle.places.proofs.Keeping.{keeps_noted}
 use Rattle.ring_words.proofs.Seen.{sub_seen_slot}
 use Rattle.ring_words.specs.Rings.{SubWords, sub_owns, sub_seen}
 use Rattle.model_files.specs.Worlds.{WorldState, world_owns, world_seen}
 use Rattle.links_drains.specs.Rows.{table_owns, table_seen}
-use Rattle.overflow.specs.Backlogs.{BacklogState, Delivery, backlog_owns, backlog_seen, delivery_owns, delivery_seen}
+use Rattle.overflow.specs.Backlogs.{BacklogState, backlog_owns, backlog_seen}
 use Rattle.machine.specs.Threads.{ThreadState, threads_owns, threads_seen}
 use Rattle.machine.specs.Whole.{view, everywhere}
-use Rattle.machine.specs.Steps.{delivery, with_delivery}
 use Rattle.machine.specs.declared.whole.Machine.{Machine}
 
-pub keeps_whole : (u v : View) (cs ds : List Change) → ((p : Place) → undo v ds p ≡ undo u cs p) → Keeps everywhere u v cs ds
-keeps_whole u v cs ds h = record { back = λ p _. h p; others = λ p o. absurd cc }
-
 pub lift_world : (m : Machine) (w : WorldState) (cs ds : List Change) → Keeps world_owns (world_seen m.world) (world_seen w) cs ds → Keeps everywhere (view m) (view (record m { world = w })) cs ds
-lift_world m w cs ds h = keeps_whole _ _ _ _ at
-  where
-    at : (p : Place) → undo (view (record m { world = w })) ds p ≡ undo (view m) cs p
-    at (MemoryByte a) = h.back (MemoryByte a) refl
-    at (FileByte o i) = h.back (FileByte o i) refl
-    at (DurableByte o i) = h.back (DurableByte o i) refl
-    at (FileLength o) = h.back (FileLength o) refl
-    at (DurableLength o) = h.back (DurableLength o) refl
-    at (Position fd) = h.back (Position fd) refl
-    at (OpenMark fd) = h.back (OpenMark fd) refl
-    at (PipeByte o i) = h.back (PipeByte o i) refl
-    at (PutCount o) = h.back (PutCount o) refl
-    at (TakenCount o) = h.back (TakenCount o) refl
-    at (EventCount o) = h.back (EventCount o) refl
-    at p = ap (λ n. unwrap_or n (view m p)) (h.others p refl)
-
-pub lift_table : (m : Machine) (w : List Row) (cs ds : List Change) → Keeps table_owns (table_seen m.table) (table_seen w) cs ds → Keeps everywhere (view m) (view (record m { table = w })) cs ds
-lift_table m w cs ds h = keeps_whole _ _ _ _ at
-  where
-    at : (p : Place) → undo (view (record m { table = w })) ds p ≡ undo (view m) cs p
-    at (Request i) = h.back (Request i) refl
-    at p = ap (λ n. unwrap_or n (view m p)) (h.others p refl)
+lift_world = grind arith
 
 pub lift_threads : (m : Machine) (w : List ThreadState) (cs ds : List Change) → Keeps threads_owns (threads_seen m.threads) (threads_seen w) cs ds → Keeps everywhere (view m) (view (record m { threads = w })) cs ds
-lift_threads m w cs ds h = keeps_whole _ _ _ _ at
-  where
-    at : (p : Place) → undo (view (record m { threads = w })) ds p ≡ undo (view m) cs p
-    at (ProgramCounter t) = h.back (ProgramCounter t) refl
-    at (ThreadStage t) = h.back (ThreadStage t) refl
-    at (Last t) = h.back (Last t) refl
-    at (Got t) = h.back (Got t) refl
-    at p = ap (λ n. unwrap_or n (view m p)) (h.others p refl)
-
--- The parts that receive completions.
-pub lift_delivery : (m : Machine) (d : Delivery) (cs ds : List Change) → Keeps delivery_owns (delivery_seen (delivery m)) (delivery_seen d) cs ds → Keeps everywhere (view m) (view (with_delivery m d)) cs ds
-lift_delivery m d cs ds h = keeps_whole _ _ _ _ at
-  where
-    at : (p : Place) → undo (view (with_delivery m d)) ds p ≡ undo (view m) cs p
-    at SubmissionHead = h.back SubmissionHead refl
-    at SubmissionTail = h.back SubmissionTail refl
-    at SubmissionFlags = h.back SubmissionFlags refl
-    at SubmissionDropped = h.back SubmissionDropped refl
-    at (Array i) = h.back (Array i) refl
-    at (Slot i) = h.back (Slot i) refl
-    at CompletionHead = h.back CompletionHead refl
-    at CompletionTail = h.back CompletionTail refl
-    at (Completion i) = h.back (Completion i) refl
-    at (Backlog i) = h.back (Backlog i) refl
-    at BacklogFront = h.back BacklogFront refl
-    at p = ap (λ n. unwrap_or n (view m p)) (h.others p refl)
+lift_threads = grind arith
 
 -- ---- The values after a write
 
 pub seen_clock : (m : Machine) (n : ℕ) (q : Place) → view (record m { clock = n }) q ≡ put_at (view m) Clock (Some (Number n)) q
 unfolding same_place
-seen_clock m n Clock = refl
-seen_clock m n _ = refl
+seen_clock = grind arith
 
 pub seen_counted : (m : Machine) (n : ℕ) (q : Place) → view (record m { counted = n }) q ≡ put_at (view m) Counted (Some (Number n)) q
 unfolding same_place
-seen_counted m n Counted = refl
-seen_counted m n _ = refl
+seen_counted = grind arith
 
 pub keeps_clock : (m : Machine) (n : ℕ) (cs ds : List Change) → Noted cs ds Clock (Some (Number m.clock)) → Keeps everywhere (view m) (view (record m { clock = n })) cs ds
 keeps_clock m n cs ds h = keeps_noted everywhere (view m) (view (record m { clock = n })) cs ds Clock (Some (Number n)) refl h (seen_clock m n)
@@ -98,11 +46,7 @@ keeps_counted m n cs ds h = keeps_noted everywhere (view m) (view (record m { co
 
 -- A place of one part differs from all places of another.
 apart : {X : Type 0} (owns : Place → Bool) (p q : Place) (v x : X) → owns p ≡ true → owns q ≡ false → x ≡ (if same_place p q then v else x)
-apart {X} owns p q v x h k = by (same_place p q) refl
-  where
-    by : (b : Bool) → same_place p q ≡ b → x ≡ (if b then v else x)
-    by true e = let o = ap owns (same_place_is p q e) in absurd cc
-    by false e = refl
+apart = grind (arith, same_place_is)
 
 pub seen_submissions : (m : Machine) (w : SubWords) (p : Place) (v : Option Value) → sub_owns p ≡ true → ((q : Place) → sub_seen w q ≡ put_at (sub_seen m.submissions) p v q) → (q : Place) → view (record m { submissions = w }) q ≡ put_at (view m) p v q
 seen_submissions m w p v o h SubmissionHead = h SubmissionHead

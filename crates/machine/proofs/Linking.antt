@@ -39,8 +39,7 @@ undo_all-more v [] r = refl
 undo_all-more v (x ∷ xs) r = ap (λ w. undo w x) (undo_all-more v xs r)
 
 undo_all_same : (v w : View) (rs : List (List Change)) → ((p : Place) → v p ≡ w p) → (p : Place) → undo_all v rs p ≡ undo_all w rs p
-undo_all_same v w [] h p = h p
-undo_all_same v w (r ∷ rs) h p = ap (unwrap_or (named r p)) (undo_all_same v w rs h p)
+undo_all_same = grind arith
 
 -- The last step of a run.
 pub record LastLink (s : Machine) (rs : List (List Change)) (r : List Change) (m : Machine) : Type 0 where

@@ -1,6 +1,5 @@
 -- Changes of all requests, by their numbers.
-use Rattle.std.proofs.Common.{◌≡◌, ℕ, refl, ◌∙◌, ap, List, length}
-use Rattle.std.specs.Prelude.{Option, Some, None, option_map, slice_get}
+use Rattle.std.proofs.Common.{◌≡◌, ℕ, ◌∙◌, List, length, arith}
 use Rattle.std.specs.List.{enumerate_from}
 use Rattle.std.proofs.lemmas.List.{length-map}
 use Rattle.std.proofs.lemmas.List.FromFn.{length-enumerate_from}
@@ -14,8 +13,4 @@ mapped_length f rows = length-map (enumerate_from 0 rows) (λ (p : ℕ × Row). 
 
 -- Requests retain their entry and chain, if the change does.
 pub mapped_stay : (f : ℕ → Row → Row) (rows : List Row) → ((r : ℕ) (row : Row) → fixed_of (f r row) ≡ fixed_of row) → Stay rows (map_numbered f rows)
-mapped_stay f rows same r l = ap (option_map fixed_of) (mapped_at f rows r) ∙ by (slice_get rows r)
-  where
-    by : (o : Option Row) → option_map fixed_of (option_map (λ row. f r row) o) ≡ option_map fixed_of o
-    by None = refl
-    by (Some row) = ap Some (same r row)
+mapped_stay = grind (arith, mapped_at)

@@ -1,9 +1,7 @@
 -- A submission of nothing changes nothing.
-use Rattle.std.proofs.Common.{◌≡◌, ℕ, zero, suc, ℤ, pos, Bool, true, false, refl, sym, ◌∙◌, ap, List, [], ◌∷◌, ◌++◌, length, ◌+◌, ◌-◌, ◌%◌, ◌^◌, ◌⊎◌, inl, inr, arith}
-use Rattle.std.proofs.lemmas.List.{append-nil}
+use Rattle.std.proofs.Common.{◌≡◌, ℕ, ℤ, pos, Bool, true, false, refl, sym, ◌∙◌, ap, List, [], length, ◌+◌, ◌⊎◌, inl, inr, arith, rules}
 use Rattle.std.specs.Prelude.{Option, Some, None, slice_get, not, ◌&&◌, if◌then◌else◌}
 use Rattle.std.specs.Option.{option_map_or}
-use Rattle.entries.specs.declared.entry.Sqe.{Sqe}
 use Rattle.entries.specs.declared.row.Row.{Row}
 use Rattle.links_drains.specs.Batches.{direct_of, rows_of}
 use Rattle.links_drains.specs.Endings.{ecanceled, ended_by, endings, given, or_else, result_in}
@@ -13,25 +11,21 @@ use Rattle.links_drains.specs.Phases.{is_unfinished}
 use Rattle.links_drains.proofs.Chains.{became}
 use Rattle.links_drains.proofs.EndingRows.{none_ended}
 use Rattle.model_files.specs.Worlds.{WorldState}
-use Rattle.ring_words.specs.Rings.{SubWords, with_flag}
-use Rattle.ring_words.specs.declared.flag.RingFlag.TheVariants.{CqOverflow}
-use Rattle.overflow.specs.Backlogs.{Delivery, all_posted, all_posted_at, backlog_with, fits, flagged, is_clear}
-use Rattle.sqpoll.specs.declared.poller.Poller.{Poller}
+use Rattle.ring_words.specs.Rings.{SubWords}
+use Rattle.overflow.specs.Backlogs.{Delivery, all_posted, is_clear}
 use Rattle.timeouts_cancel.specs.Cascades.{fall_of, guards_listed, is_met, with_guards, with_met, with_severed}
 use Rattle.timeouts_cancel.proofs.Listed.{upto_all}
 use Rattle.machine.specs.Submission.{taken_entries}
-use Rattle.machine.specs.Steps.{after, all_ended, answered, awaited, delivery, entered, entries_for, executed, cascaded, submitted, taken, with_delivery, words_for}
+use Rattle.machine.specs.Steps.{after, all_ended, answered, delivery, entries_for, executed, cascaded, submitted, taken, with_delivery}
 use Rattle.machine.specs.Whole.{NoneMet, WellFormed, flag_word, is_asleep}
 use Rattle.machine.specs.declared.whole.Machine.{Machine}
 use Rattle.scenario.specs.declared.setup.Instruction.TheVariants.{Enter}
 use Rattle.scenario.specs.declared.event.Event.TheVariants.{Take}
-use Rattle.machine.proofs.FormedMachines.{overflow_flag}
-use Rattle.machine.proofs.FormedSubmissions.{length-taken_words, old_or_new}
-use Rattle.machine.proofs.SubmissionLemmas.{take_is_taken}
+use Rattle.machine.proofs.FormedSubmissions.{old_or_new}
+use Rattle.std.proofs.lemmas.Grind.{common_steps}
 
 pub empty : {X : Type 0} (xs : List X) → length xs ≡ 0 → xs ≡ []
-empty [] h = refl
-empty (x ∷ xs) h = absurd (omega (arith, h))
+empty = grind (arith, common_steps)
 
 -- ---- An empty cascade
 
@@ -63,17 +57,7 @@ nothing_listed rows counted h =
 
 -- Posting none changes nothing.
 none_posted : (d : Delivery) (a : Bool) → d.submissions.flags ≡ flag_word a (not (is_clear d.backlog)) → all_posted d [] ≡ d
-none_posted d a h = by (fits d.completions d.backlog 0)
-  where
-    same : record d { submissions = flagged d.submissions d.backlog } ≡ d
-    same = ap (λ n. record d { submissions = record d.submissions { flags = n } }) (ap (λ n. with_flag n CqOverflow (not (is_clear d.backlog))) h ∙ overflow_flag a (not (is_clear d.backlog)) (not (is_clear d.backlog)) ∙ sym h)
-
-    longer : record d { submissions = flagged d.submissions (backlog_with d.backlog []); backlog = backlog_with d.backlog [] } ≡ record d { submissions = flagged d.submissions d.backlog }
-    longer = ap (λ xs. record d { submissions = flagged d.submissions (record d.backlog { items = xs }); backlog = record d.backlog { items = xs } }) (append-nil d.backlog.items)
-
-    by : (i : ℕ) → all_posted_at d [] i ≡ d
-    by zero = longer ∙ same
-    by (suc i) = longer ∙ same
+none_posted = search rules
 
 -- Without direct completions, nothing completes.
 pub none_complete : (m : Machine) → m.submissions.flags ≡ flag_word (is_asleep m.poller) (not (is_clear m.backlog)) → NoneMet m.counted m.table → cascaded m [] ≡ m
@@ -101,31 +85,13 @@ only_taken m k f h = ap (cascaded (taken m k)) h ∙ none_complete (taken m k) f
 -- ---- Nothing is consumed
 
 no_entries : (b : Bool) (v : WorldState) (w : SubWords) → taken_entries b v w 0 ≡ []
-no_entries true v w = refl
-no_entries false v w = refl
-
-no_words : (m : Machine) → words_for m 0 ≡ []
-no_words m = let l = length-taken_words m.submit_all m.world m.submissions 0 in empty (words_for m 0) (omega (arith, l))
+no_entries = grind arith
 
 nothing_taken : (m : Machine) → WellFormed m → taken m 0 ≡ m
-nothing_taken m f = sym (take_is_taken m 0 0 0 m.submissions m.table (sym (no_words m)) (omega arith) rows (ap length (sym none)) ring)
-  where
-    none : entries_for m 0 ≡ []
-    none = no_entries m.submit_all m.world m.submissions
-
-    rows : m.table ≡ m.table ++ rows_of m.world (length m.table) (entries_for m 0)
-    rows = sym (ap (λ es. m.table ++ rows_of m.world (length m.table) es) none ∙ append-nil m.table)
-
-    ring : m.submissions ≡ record m.submissions { head = (m.submissions.head + 0) % 2 ^ 32; dropped = (m.submissions.dropped + (0 - 0)) % 2 ^ 32 }
-    ring =
-        let a : m.submissions.head ≡ (m.submissions.head + 0) % 2 ^ 32 = let l = f.mostly.rings.submissions.head in omega (arith, l) in
-        let b : m.submissions.dropped ≡ (m.submissions.dropped + (0 - 0)) % 2 ^ 32 = let l = f.mostly.rings.submissions.dropped in omega (arith, l) in
-        ap (λ h. record m.submissions { head = h }) a ∙ ap (λ d. record m.submissions { head = (m.submissions.head + 0) % 2 ^ 32; dropped = d }) b
+nothing_taken = search rules
 
 pub nothing_submitted : (m : Machine) → WellFormed m → submitted m 0 ≡ m
-nothing_submitted m f =
-    ap (λ es. cascaded (taken m 0) (direct_of m.world (length m.table) es)) (no_entries m.submit_all m.world m.submissions)
-    ∙ ap (λ (n : Machine). cascaded n []) (nothing_taken m f) ∙ nothing_cascades m f
+nothing_submitted = grind (arith, no_entries, nothing_taken, nothing_cascades)
 
 pub take_of_nothing : (m : Machine) → WellFormed m → after m (Take 0) ≡ m
 take_of_nothing m f = nothing_submitted m f
@@ -133,10 +99,4 @@ take_of_nothing m f = nothing_submitted m f
 -- ---- An Enter that submits nothing
 
 pub enter_of_nothing : (m : Machine) (t min_complete : ℕ) → WellFormed m → executed m t (Some (Enter 0 min_complete 0)) ≡ answered m t (pos 0)
-enter_of_nothing m t min_complete f = by m.poller
-  where
-    by : (p : Option Poller) → entered m p t 0 min_complete 0 ≡ answered m t (pos 0)
-    by None =
-        ap (λ (es : List Sqe). awaited (submitted m 0) t (length es) 0 min_complete 0) (no_entries m.submit_all m.world m.submissions)
-        ∙ ap (λ (n : Machine). awaited n t 0 0 min_complete 0) (nothing_submitted m f)
-    by (Some p) = refl
+enter_of_nothing = grind (arith, nothing_submitted)

@@ -1,6 +1,6 @@
 -- Undoing a list of changes.
-use Rattle.std.proofs.Common.{◌≡◌, ℕ, Bool, true, false, cond, refl, sym, ◌∙◌, ap, subst, List, ◌∷◌, length, map, arith}
-use Rattle.std.specs.Prelude.{Option, Some, None, is_some, option_map, slice_get, unwrap_or}
+use Rattle.std.proofs.Common.{◌≡◌, ℕ, Bool, true, refl, sym, ◌∙◌, ap, subst, List, ◌∷◌, length, map, arith}
+use Rattle.std.specs.Prelude.{Option, Some, None, is_some, option_map, slice_get}
 use Rattle.std.proofs.lemmas.Option.{slice_get-map}
 use Rattle.std.proofs.lemmas.List.{length-map}
 use Rattle.places.specs.declared.place.Place.{Place}
@@ -8,7 +8,6 @@ use Rattle.places.specs.declared.place.Place.TheVariants.{SubmissionHead, Submis
 use Rattle.places.specs.declared.value.Value.{Value}
 use Rattle.places.specs.declared.value.Value.TheVariants.{Number, Signed, Requested, Staged, Reaped, Awake as AwakeValue}
 use Rattle.places.specs.declared.value.Change.{Change}
-use Rattle.places.specs.Places.{same_place}
 use Rattle.places.specs.View.{View, named, undo, put_at, LeadsBack, Exact}
 use Rattle.places.proofs.SamePlace.{same_place_is}
 use Rattle.places.proofs.ListLemmas.{same_list}
@@ -21,29 +20,19 @@ use Rattle.model_files.specs.Worlds.{world_seen}
 use Rattle.model_files.proofs.Restoring.{world_seen_can_put, world_absent_same, same_world}
 use Rattle.overflow.specs.Backlogs.{BacklogFormed, backlog_seen}
 use Rattle.overflow.proofs.Restoring.{backlog_seen_can_put, backlog_absent_same, same_backlog}
-use Rattle.sqpoll.proofs.Restoring.{same_poller}
 use Rattle.sqpoll.specs.declared.poller.Poller.{Poller}
-use Rattle.sqpoll.specs.Pollers.{is_awake, poller_seen}
 use Rattle.machine.specs.Threads.{ThreadState, program_of}
 use Rattle.machine.specs.Whole.{view, can_put, stage_of, OneSetup, WellFormed}
 use Rattle.machine.specs.declared.whole.Machine.{Machine}
 
 -- An exact record leads back.
 pub back_from_exact : (u v : View) (cs : List Change) → Exact u v cs → LeadsBack u v cs
-back_from_exact u v cs h p = by (named cs p) refl
-  where
-    by : (n : Option (Option Value)) → named cs p ≡ n → unwrap_or n (v p) ≡ u p
-    by None e = sym (h.same p e)
-    by (Some x) e = (h.differs p x e).0
+back_from_exact = grind arith
 
 -- Undoing a list begins with its first change.
 pub undo-cons : (v w : View) (c : Change) (cs : List Change) → named cs c.place ≡ None → ((q : Place) → w q ≡ put_at v c.place c.old q) → (p : Place) → undo w cs p ≡ undo v (c ∷ cs) p
 unfolding named
-undo-cons v w c cs n h p = ap (unwrap_or (named cs p)) (h p) ∙ by (same_place c.place p) refl
-  where
-    by : (b : Bool) → same_place c.place p ≡ b → unwrap_or (named cs p) (cond b c.old (v p)) ≡ unwrap_or (cond b (Some c.old) (named cs p)) (v p)
-    by true e = ap (λ a. unwrap_or a c.old) (sym (ap (named cs) (same_place_is c.place p e)) ∙ n)
-    by false e = refl
+undo-cons = grind (arith, same_place_is)
 
 same_count : (s m : Machine) → OneSetup s m → length s.threads ≡ length m.threads
 same_count s m h = simp length-map at (ap length h.programs)
@@ -51,23 +40,13 @@ same_count s m h = simp length-map at (ap length h.programs)
 -- ---- The poller, if there is one
 
 poller_put : (o o' : Option Poller) (v : Value) → is_some o ≡ is_some o' → stage_of o ≡ Some v → (is_some o' ≡ true) × ((b : Bool) × (v ≡ AwakeValue b))
-poller_put None o' v h e = absurd cc
-poller_put (Some p) o' v h e = (sym h, (is_awake p, cc))
+poller_put = grind arith
 
 poller_absent : (o o' : Option Poller) → is_some o ≡ is_some o' → stage_of o ≡ None → stage_of o' ≡ None
-poller_absent None None h e = refl
-poller_absent None (Some p) h e = absurd cc
-poller_absent (Some p) o' h e = absurd cc
+poller_absent = grind arith
 
 one_poller : (o o' : Option Poller) → stage_of o ≡ stage_of o' → o ≡ o'
-one_poller None None e = refl
-one_poller None (Some p) e = absurd cc
-one_poller (Some p) None e = absurd cc
-one_poller (Some p) (Some q) e = ap Some (same_poller p q at)
-  where
-    at : (x : Place) → poller_seen p x ≡ poller_seen q x
-    at PollerStage = e
-    at _ = refl
+one_poller = grind arith
 
 -- ---- The parts
 
@@ -147,13 +126,7 @@ slice_get-map_program ts t = slice_get-map program_of ts t
 
 same_thread : (a b : Option ThreadState) → option_map program_of a ≡ option_map program_of b → option_map (λ x. Number x.counter) a ≡ option_map (λ x. Number x.counter) b → option_map (λ x. Staged x.stage) a ≡ option_map (λ x. Staged x.stage) b
     → option_map (λ x. Signed x.last) a ≡ option_map (λ x. Signed x.last) b → option_map (λ x. Reaped x.got) a ≡ option_map (λ x. Reaped x.got) b → a ≡ b
-same_thread None None p c s l g = refl
-same_thread None (Some y) p c s l g = absurd cc
-same_thread (Some x) None p c s l g = absurd cc
-same_thread (Some x) (Some y) p c s l g = ap Some (five (cc) (cc) (cc) (cc) (cc))
-  where
-    five : x.program ≡ y.program → x.counter ≡ y.counter → x.stage ≡ y.stage → x.last ≡ y.last → x.got ≡ y.got → x ≡ y
-    five a b c' d e = λ i. record { program = a i; counter = b i; stage = c' i; last = d i; got = e i }
+same_thread = grind arith
 
 pub same_machine : (m n : Machine) → OneSetup m n → ((p : Place) → view m p ≡ view n p) → m ≡ n
 same_machine m n h e = λ i. record { submissions = subs i; completions = coms i; backlog = kept i; world = world i; table = rows i; poller = polled i; submit_all = h.submit_all i; threads = threads i; clock = clock i; counted = counted i }

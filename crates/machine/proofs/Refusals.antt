@@ -1,33 +1,24 @@
 -- The reported refusal is the one with the smallest number among the causes of an event.
-use Rattle.std.proofs.Common.{◌≡◌, ℕ, Bool, true, false, cond, refl, sym, ◌∙◌, ap, subst, List, [], ◌∷◌, length, ◌+◌, ◌-◌, ◌<◌, ◌^◌, ◌⊎◌, inl, inr, arith}
-use Rattle.std.specs.Prelude.{Option, Some, None, is_none, not, ◌==◌, ◌&&◌, ◌||◌, slice_get, nat_lt, nat_le, unwrap_or}
+use Rattle.std.proofs.Common.{◌≡◌, ℕ, Bool, true, false, cond, refl, sym, ◌∙◌, ap, subst, List, [], ◌∷◌, length, ◌+◌, ◌-◌, ◌<◌, ◌⊎◌, inl, inr, arith}
+use Rattle.std.specs.Prelude.{Option, Some, None, is_none, not, ◌==◌, ◌&&◌, slice_get, nat_le, unwrap_or}
 use Rattle.std.specs.List.{find}
 use Rattle.std.specs.Option.{option_map_or, option_and_then}
 use Rattle.std.proofs.lemmas.Bool.{cases_order, le-leb, lt-leb}
-use Rattle.std.proofs.lemmas.Bool.Decides.{nat_tests}
 use Rattle.std.proofs.lemmas.Option.{slice_get_cases, slice_get_within}
 use Rattle.entries.specs.declared.row.Row.{Row}
-use Rattle.entries.specs.declared.row.Phase.{Phase}
-use Rattle.entries.specs.declared.row.Phase.TheVariants.{Queued, Issued, Ended}
 use Rattle.entries.specs.declared.choice.Choice.{Choice}
 use Rattle.entries.specs.declared.choice.Choice.TheVariants.{Full, Short, Eio}
 use Rattle.opcodes.specs.declared.ending.Outcome.{Outcome}
 use Rattle.opcodes.specs.declared.ending.Outcome.TheVariants.{Res, Waits, BadChoice as IsBadChoice}
-use Rattle.opcodes.specs.Opcodes.{is_cancel, is_timer}
+use Rattle.opcodes.specs.Opcodes.{is_cancel}
 use Rattle.opcodes.specs.Outcomes.{outcome_of}
 use Rattle.places.specs.declared.value.Stage.{Stage}
 use Rattle.places.specs.declared.value.Stage.TheVariants.{Ready, Waiting}
 use Rattle.ring_words.specs.Rings.{sub_list, waiting}
-use Rattle.sqpoll.specs.declared.poller.Poller.{Poller}
-use Rattle.sqpoll.specs.declared.poller.Poller.TheVariants.{Awake, Asleep as IsAsleep}
-use Rattle.links_drains.specs.Eligible.{is_eligible}
 use Rattle.links_drains.specs.Holding.{is_held_by}
-use Rattle.links_drains.specs.Phases.{is_issued, is_queued}
-use Rattle.timeouts_cancel.specs.Timers.{is_due}
 use Rattle.machine.specs.Threads.{ThreadState}
-use Rattle.machine.specs.Steps.{before_submission, choice_refusal, enter_refusal, expire_refusal, finish_refusal, flushed, full_refusal, gets_events, instruction_refusal, is_busy, is_unknown, issue_refusal, next_refusal, outcome_refusal, phase_refusal, ready_count, refusal, sleep_refusal, submission_refusal, take_refusal, thread_refusal, start_refusal}
-use Rattle.machine.specs.Whole.{is_asleep}
-use Rattle.machine.specs.Refusals.{cannot_end, exceeds_rows, executes, has_cause, is_at_end, is_bad_choice, is_in_full, is_push, is_reap, is_unready, is_waits, number_of, submits_too_many, waits_still}
+use Rattle.machine.specs.Steps.{choice_refusal, flushed, full_refusal, instruction_refusal, next_refusal, outcome_refusal, ready_count, refusal, submission_refusal, thread_refusal}
+use Rattle.machine.specs.Refusals.{cannot_end, executes, has_cause, is_at_end, is_bad_choice, is_in_full, is_push, is_reap, is_unready, is_waits, number_of, submits_too_many, waits_still}
 use Rattle.machine.specs.declared.whole.Machine.{Machine}
 use Rattle.scenario.specs.declared.setup.Instruction.{Instruction}
 use Rattle.scenario.specs.declared.setup.Instruction.TheVariants.{Put, Push, Store, Enter, Reap, Close}
@@ -103,40 +94,13 @@ abbrev First : Machine → Event → Type 0
 First m e = refusal m e ≡ find (has_cause m e) refusals
 
 take_first : (m : Machine) (n : ℕ) → First m (Take n)
-take_first m n = by m.poller
-  where
-    by : (o : Option Poller) → take_refusal m o n ≡ cond (is_none o) (Some NoPoller) (cond (is_asleep o) (Some Asleep) (cond (exceeds_rows m n) (Some RequestsFull) None))
-    by None = refl
-    by (Some Awake) = refl
-    by (Some IsAsleep) = refl
+take_first = grind arith
 
 sleep_first : (m : Machine) → First m Sleep
-sleep_first m = by m.poller
-  where
-    idle : (b : Bool) → cond b None (Some NotIdle) ≡ cond (not b) (Some NotIdle) None
-    idle true = refl
-    idle false = refl
-
-    by : (o : Option Poller) → sleep_refusal m o ≡ cond (is_none o) (Some NoPoller) (cond (is_asleep o) (Some Asleep) (cond (not (waiting m.submissions.head m.submissions.tail == 0)) (Some NotIdle) None))
-    by None = refl
-    by (Some Awake) = idle (waiting m.submissions.head m.submissions.tail == 0)
-    by (Some IsAsleep) = refl
+sleep_first = grind arith
 
 issue_first : (m : Machine) (r : ℕ) → First m (Issue r)
-issue_first m r = by (slice_get m.table r)
-  where
-    may : (b : Bool) → cond b None (Some NotEligible) ≡ cond (not b) (Some NotEligible) None
-    may true = refl
-    may false = refl
-
-    at : (p : Phase) → start_refusal m.table r p ≡ cond (not (is_queued p)) (Some WrongPhase) (cond (is_queued p && not (is_eligible m.table r)) (Some NotEligible) None)
-    at Queued = may (is_eligible m.table r)
-    at Issued = refl
-    at (Ended res) = refl
-
-    by : (o : Option Row) → issue_refusal m.table r o ≡ cond (is_none o) (Some NoSuchRequest) (cond (option_map_or (λ row. not (is_queued row.phase)) o false) (Some WrongPhase) (cond (option_map_or (λ row. is_queued row.phase && not (is_eligible m.table r)) o false) (Some NotEligible) None))
-    by None = refl
-    by (Some row) = at row.phase
+issue_first = grind arith
 
 -- An issued request that is no timer.
 choice_first : (m : Machine) (c : Choice) (row : Row) → choice_refusal (is_held_by m.table) m.world row c ≡ cond (is_unready m c row) (Some NotReady) (cond (cannot_end m c row) (Some BadChoice) None)
@@ -151,46 +115,13 @@ choice_first m c row = by (is_cancel row.entry.opcode) c (outcome_of (is_held_by
     by false c IsBadChoice = refl
 
 finish_first : (m : Machine) (r : ℕ) (c : Choice) → First m (Finish r c)
-finish_first m r c = by (slice_get m.table r)
-  where
-    at : (p : Phase) (timer : Bool) (x y : Option Refusal) → x ≡ y → cond timer (Some WrongPhase) (phase_refusal p x) ≡ cond (not (is_issued p) || timer) (Some WrongPhase) y
-    at Queued true x y e = refl
-    at Queued false x y e = refl
-    at Issued true x y e = refl
-    at Issued false x y e = e
-    at (Ended res) true x y e = refl
-    at (Ended res) false x y e = refl
-
-    by : (o : Option Row) → finish_refusal (is_held_by m.table) m.world o c ≡ cond (is_none o) (Some NoSuchRequest) (cond (option_map_or (λ row. not (is_issued row.phase) || is_timer row.entry.opcode) o false) (Some WrongPhase) (cond (option_map_or (is_unready m c) o false) (Some NotReady) (cond (option_map_or (cannot_end m c) o false) (Some BadChoice) None)))
-    by None = refl
-    by (Some row) = at row.phase (is_timer row.entry.opcode) _ _ (choice_first m c row)
+finish_first = grind (arith, choice_first)
 
 expire_first : (m : Machine) (r : ℕ) → First m (Expire r)
-expire_first m r = by (slice_get m.table r)
-  where
-    at : (p : Phase) (timer due : Bool) → cond timer (phase_refusal p (cond due None (Some NotDue))) (Some WrongPhase) ≡ cond (not (is_issued p) || not timer) (Some WrongPhase) (cond (not due) (Some NotDue) None)
-    at Queued true due = refl
-    at Queued false due = refl
-    at Issued true true = refl
-    at Issued true false = refl
-    at Issued false due = refl
-    at (Ended res) true due = refl
-    at (Ended res) false due = refl
-
-    by : (o : Option Row) → expire_refusal m.clock o ≡ cond (is_none o) (Some NoSuchRequest) (cond (option_map_or (λ row. not (is_issued row.phase) || not (is_timer row.entry.opcode)) o false) (Some WrongPhase) (cond (option_map_or (λ row. not (is_due m.clock row)) o false) (Some NotDue) None))
-    by None = refl
-    by (Some row) = at row.phase (is_timer row.entry.opcode) (is_due m.clock row)
-
--- Whether a number exceeds 64 bits.
-passes_clock : (n : ℕ) → not (nat_lt n (2 ^ 64)) ≡ nat_lt (2 ^ 64 - 1) n
-passes_clock n = grind (arith, nat_tests)
+expire_first = grind arith
 
 tick_first : (m : Machine) (d : ℕ) → First m (Tick d)
-tick_first m d = by (nat_lt (m.clock + d) (2 ^ 64)) ∙ ap (λ b. cond b (Some ClockFull) None) (passes_clock (m.clock + d))
-  where
-    by : (b : Bool) → cond b None (Some ClockFull) ≡ cond (not b) (Some ClockFull) None
-    by true = refl
-    by false = refl
+tick_first = grind arith
 
 -- ---- Instructions
 
@@ -201,20 +132,10 @@ ends xs n = elim (slice_get_cases xs n).1 [ inl there ↦ lt-leb (length xs) n t
 -- A flush doesn't change what a submission adds.
 as_before : (m : Machine) (k : ℕ) (b : Bool) → submission_refusal (cond b (flushed m) m) k ≡ submission_refusal m k
 unfolding sub_list
-as_before m k true = refl
-as_before m k false = refl
+as_before = grind arith
 
 enter_first : (m : Machine) (k w flags : ℕ) → instruction_refusal m (Enter k w flags) ≡ cond (submits_too_many m (Enter k w flags)) (Some RequestsFull) None
-enter_first m k w flags = by m.poller
-  where
-    alone : (unknown busy : Bool) → cond unknown None (cond busy None (submission_refusal m k)) ≡ cond ((not unknown && not busy) && exceeds_rows m k) (Some RequestsFull) None
-    alone true busy = refl
-    alone false true = refl
-    alone false false = refl
-
-    by : (o : Option Poller) → enter_refusal m o k flags ≡ cond ((is_none o && (not (is_unknown flags) && not (is_busy (before_submission m k flags) k))) && exceeds_rows m k) (Some RequestsFull) None
-    by None = ap (λ x. cond (is_unknown flags) None (cond (is_busy (before_submission m k flags) k) None x)) (as_before m k (gets_events flags || nat_lt 0 k)) ∙ alone (is_unknown flags) (is_busy (before_submission m k flags) k)
-    by (Some p) = refl
+enter_first = grind (arith, as_before)
 
 step_first : (m : Machine) (t : ℕ) → First m (Step t)
 step_first m t = by (slice_get m.threads t)
@@ -234,13 +155,7 @@ step_first m t = by (slice_get m.threads t)
     by (Some x) = rw (ends x.program x.counter) (at x.stage (slice_get x.program x.counter))
 
 first_is_refusal : (m : Machine) (e : Event) → refusal m e ≡ find (has_cause m e) refusals
-first_is_refusal m (Step t) = step_first m t
-first_is_refusal m (Take n) = take_first m n
-first_is_refusal m Sleep = sleep_first m
-first_is_refusal m (Issue r) = issue_first m r
-first_is_refusal m (Finish r c) = finish_first m r c
-first_is_refusal m (Expire r) = expire_first m r
-first_is_refusal m (Tick d) = tick_first m d
+first_is_refusal = grind (arith, step_first, take_first, sleep_first, issue_first, finish_first, expire_first, tick_first)
 
 -- ---- The theorems
 

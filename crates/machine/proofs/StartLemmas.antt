@@ -1,9 +1,9 @@
 -- The initial machine of a setup is well formed.
-use Rattle.std.proofs.Common.{◌≡◌, ℕ, Bool, true, false, cond, refl, sym, ◌∙◌, ap, subst, List, [], ◌∷◌, length, map, ◌+◌, ◌<◌, ◌≤◌, ◌^◌, ◌⊎◌, inl, inr, arith}
-use Rattle.std.specs.Prelude.{Option, Some, None, slice_get, ◌&&◌, not}
+use Rattle.std.proofs.Common.{◌≡◌, ℕ, Bool, true, false, refl, sym, ◌∙◌, ap, subst, List, [], ◌∷◌, length, map, ◌+◌, ◌<◌, ◌≤◌, ◌^◌, arith}
+use Rattle.std.specs.Prelude.{Option, Some, None, slice_get, ◌&&◌}
 use Rattle.std.specs.List.{list_all}
 use Rattle.std.proofs.Math.Dec.{leb}
-use Rattle.std.proofs.lemmas.Bool.Decides.{nat_tests, leb_tells}
+use Rattle.std.proofs.lemmas.Bool.Decides.{nat_tests}
 use Rattle.std.proofs.lemmas.Option.{slice_get_within, slice_get-map}
 use Rattle.std.proofs.lemmas.List.{length-replicate, take_more, map-append}
 use Rattle.std.proofs.lemmas.Option.{get_or_from_slice_get}
@@ -18,7 +18,7 @@ use Rattle.ring_words.proofs.Laws.{formed_sub_start, formed_com_start}
 use Rattle.scenario.specs.Programs.{HasWidths, HaveWidths, IsDone, IsProgram}
 use Rattle.links_drains.proofs.Chains.{chained-none}
 use Rattle.machine.specs.Threads.{ThreadState, thread_start}
-use Rattle.scenario.specs.Setups.{setup_refusal, has_ring_sizes, is_between, is_completion_size, has_programs, is_program, is_instruction, has_memory, has_objects, has_descriptors, is_descriptor, is_object, is_name, is_contents, names_once, keeps_limits}
+use Rattle.scenario.specs.Setups.{setup_refusal, has_ring_sizes, is_between, is_completion_size, has_programs, is_program, is_instruction, has_memory, has_objects, has_descriptors}
 use Rattle.places.specs.declared.object.Contents.{Contents}
 use Rattle.places.specs.declared.object.Contents.TheVariants.{File, Pipe, EventFd}
 use Rattle.places.specs.declared.object.Object.{Object}
@@ -31,25 +31,15 @@ use Rattle.places.specs.declared.value.Stage.TheVariants.{Ready, Waiting}
 use Rattle.machine.specs.Whole.{is_asleep, flag_word, WellFormed, ThreadWellFormed}
 use Rattle.machine.specs.Runs.{first_poller, start, completion_entries}
 use Rattle.scenario.specs.declared.setup.Instruction.{Instruction}
-use Rattle.scenario.specs.declared.setup.Instruction.TheVariants.{Put, Push, Store, Enter, Reap, Close}
 use Rattle.scenario.specs.declared.setup.Setup.{Setup}
-use Rattle.scenario.specs.declared.setup.SetupRefusal.TheVariants.{RingSize, Limit}
 
 both_true : (a b : Bool) → (a && b) ≡ true → (a ≡ true) × (b ≡ true)
-both_true true b h = (refl, h)
-both_true false b h = absurd cc
+both_true = grind arith
 
 -- ---- Facts about each item below an index
 
-order : (a b : ℕ) → (a ≤ b) ⊎ (b < a)
-order a b = elim (leb_tells a b) [ inl k ↦ inl k.1 | inr k ↦ inr k.1 ]
-
 pub below_on : {X : Type 0} (P : X → Type 0) (xs : List X) (i : ℕ) (y : X) → slice_get xs i ≡ Some y → P y → ((j : ℕ) (x : X) → j < i → slice_get xs j ≡ Some x → P x) → (j : ℕ) (x : X) → j < i + 1 → slice_get xs j ≡ Some x → P x
-below_on {X} P xs i y at p below j x l h = by (order i j)
-  where
-    by : (i ≤ j) ⊎ (j < i) → P x
-    by (inl k) = let e : i ≡ j = omega (arith, k, l) in let s : Some y ≡ Some x = sym at ∙ ap (slice_get xs) e ∙ h in let same : y ≡ x = cc in subst P same p
-    by (inr k) = below j x k h
+below_on = grind arith
 
 pub all_below : {X : Type 0} (P : X → Type 0) (xs : List X) (i : ℕ) → length xs ≤ i → ((j : ℕ) (x : X) → j < i → slice_get xs j ≡ Some x → P x) → (j : ℕ) (x : X) → slice_get xs j ≡ Some x → P x
 all_below P xs i l below j x h = let w = slice_get_within xs j x h in below j x (omega (arith, w, l)) h
@@ -64,20 +54,10 @@ list_all_get q (y ∷ ys) (suc i) x h g = list_all_get q ys i x (both_true (q y)
 -- ---- Instructions and programs
 
 done : (size : ℕ) (x : Instruction) → is_instruction size x ≡ true → HasWidths x → IsDone size x
-done size (Put slot entry) h w = grind (arith, nat_tests)
-done size (Push index) h w = w
-done size (Store address bytes) h w = let b = both_true (leb (length bytes) 4096) (leb (address + length bytes) 65536) h in grind (arith, nat_tests, b.1)
-done size (Enter to_submit min_complete flags) h w = w
-done size Reap h w = tt
-done size (Close fd) h w = tt
+done = grind arith
 
 program : (size : ℕ) (p : List Instruction) → is_program size p ≡ true → ((i : ℕ) (x : Instruction) → slice_get p i ≡ Some x → HasWidths x) → IsProgram size p
-program size p h w =
-    let b = both_true (leb (length p) 4096) (list_all (is_instruction size) p) h in
-    record {
-      short = grind (arith, nat_tests, b.0);
-      done = λ i x g. done size x (list_all_get (is_instruction size) p i x b.1 g) (w i x g);
-    }
+program = grind (arith, both_true, leb, done, list_all_get)
 
 -- ---- The setup's fields
 
@@ -88,40 +68,18 @@ pub record Accepted (s : Setup) : Type 0 where
   pub descriptors : has_descriptors s ≡ true
   pub programs : has_programs s ≡ true
 
-limits : (s : Setup) → has_ring_sizes s ≡ true → keeps_limits s ≡ true → Accepted s
-limits s a b =
-    let m = both_true (has_memory s) (has_objects s && (has_descriptors s && has_programs s)) b in
-    let o = both_true (has_objects s) (has_descriptors s && has_programs s) m.1 in
-    let d = both_true (has_descriptors s) (has_programs s) o.1 in
-    record { sizes = a; memory = m.0; objects = o.0; descriptors = d.0; programs = d.1 }
-
 pub accepted : (s : Setup) → setup_refusal s ≡ None → Accepted s
-accepted s h = by (has_ring_sizes s) (keeps_limits s) refl refl h
-  where
-    by : (a b : Bool) → has_ring_sizes s ≡ a → keeps_limits s ≡ b → cond (not a) (Some RingSize) (cond b None (Some Limit)) ≡ None → Accepted s
-    by true true d e k = limits s d e
-    by true false d e k = absurd cc
-    by false b d e k = absurd cc
+accepted = grind arith
 
 -- The initial memory and objects of a setup fit.
 pub memory_fits : (s : Setup) → Accepted s → length s.memory ≤ 65536
 memory_fits s a = grind (arith, nat_tests, a.memory)
 
-contents_fit : (c : Contents) → is_contents c ≡ true → ContentsFit c
-contents_fit (File bytes) h = grind (arith, nat_tests)
-contents_fit (Pipe capacity) h = (grind (arith, nat_tests), grind (arith, nat_tests))
-contents_fit (EventFd counter) h = grind (arith, nat_tests)
-
 pub objects_fit : (s : Setup) → Accepted s → (i : ℕ) (o : Object) → slice_get s.objects i ≡ Some o → ContentsFit o.contents
-objects_fit s a i o h =
-    let few = both_true (leb (length s.objects) 32 && list_all is_object s.objects) (names_once s.objects) a.objects in
-    let each = both_true (leb (length s.objects) 32) (list_all is_object s.objects) few.0 in
-    contents_fit o.contents (both_true (is_name o.name) (is_contents o.contents) (list_all_get is_object s.objects i o each.1 h)).1
+objects_fit = grind (arith, list_all_get)
 
 pub descriptors_few : (s : Setup) → Accepted s → length s.fds ≤ 64
-descriptors_few s a =
-    let few = both_true (leb (length s.fds) 64) (list_all (is_descriptor s.objects) s.fds) a.descriptors in
-    grind (arith, nat_tests, few.0)
+descriptors_few = grind arith
 
 -- The initial pipes have received no bytes.
 puts_start : (memory : List ℕ) (os : List Object) (ds : List Descriptor) → PutsWithin 0 (world_start memory os ds)
@@ -138,10 +96,7 @@ puts_start memory os ds o p h = by os o h
     by (x ∷ xs) (suc i) e = by xs i e
 
 entries_between : (s : Setup) → has_ring_sizes s ≡ true → (0 < s.entries) × (s.entries ≤ 4096)
-entries_between s h =
-    let b = both_true (is_between 1 4096 s.entries) (is_completion_size s.entries s.cq) h in
-    let c = both_true (leb 1 s.entries) (leb s.entries 4096) b.0 in
-    (grind (arith, nat_tests, c.0), grind (arith, nat_tests, c.1))
+entries_between = grind arith
 
 completions_between : (entries : ℕ) (cq : Option ℕ) → 0 < entries → entries ≤ 4096 → is_completion_size entries cq ≡ true → (0 < completion_entries entries cq) × (completion_entries entries cq ≤ 8192)
 completions_between entries None l m h =
@@ -149,10 +104,7 @@ completions_between entries None l m h =
     let some = size_some size in
     let most = size.most in
     (omega (arith, some), omega (arith, most))
-completions_between entries (Some n) l m h =
-    let b = both_true (is_between 1 8192 n) (leb (rounded entries) (rounded n)) h in
-    let c = both_true (leb 1 n) (leb n 8192) b.0 in
-    (grind (arith, nat_tests, c.0), grind (arith, nat_tests, c.1))
+completions_between entries (Some n) l m h = grind arith
 
 -- ---- The whole machine
 
@@ -177,8 +129,7 @@ threads_well_formed s a w t x h = by (slice_get s.threads t) refl (sym (slice_ge
         })
 
 awake_first : (b : Bool) → is_asleep (first_poller b) ≡ false
-awake_first true = refl
-awake_first false = refl
+awake_first = grind arith
 
 pub formed_start : (s : Setup) → setup_refusal s ≡ None → s.base < 2 ^ 32 → HaveWidths s.threads → WellFormed (start s)
 formed_start s h b w =

@@ -1,8 +1,6 @@
 -- Lemmas about what a submission consumes.
-use Rattle.std.proofs.Common.{◌≡◌, ℕ, Bool, true, false, cond, refl, sym, ◌∙◌, ap, List, ◌++◌, length, take, ◌+◌, ◌-◌, ◌%◌, ◌≤◌, ◌^◌, arith}
-use Rattle.std.specs.Prelude.{Some, None, min}
-use Rattle.std.proofs.Math.Dec.{ltb}
-use Rattle.std.proofs.lemmas.Bool.Decides.{nat_tests}
+use Rattle.std.proofs.Common.{◌≡◌, ℕ, ◌∙◌, ap, List, ◌++◌, length, take, ◌+◌, ◌-◌, ◌%◌, ◌≤◌, ◌^◌, arith}
+use Rattle.std.specs.Prelude.{None, min}
 use Rattle.std.proofs.lemmas.List.{length-take-le}
 use Rattle.entries.specs.declared.row.Row.{Row}
 use Rattle.ring_words.specs.Rings.{SubWords, sub_list}
@@ -10,17 +8,12 @@ use Rattle.links_drains.specs.Batches.{rows_of}
 use Rattle.machine.specs.Submission.{offered}
 use Rattle.machine.specs.Steps.{entries_for, submission_refusal, taken, words_for}
 use Rattle.machine.specs.declared.whole.Machine.{Machine}
-use Rattle.scenario.specs.declared.event.Refusal.TheVariants.{RequestsFull}
 use Rattle.machine.proofs.TakingWords.{take_least}
 
 -- ---- Refusals
 
 pub accepted_fits : (m : Machine) (k : ℕ) → submission_refusal m k ≡ None → length m.table + length (offered m.submissions k) ≤ 65536
-accepted_fits m k h = by (ltb 65536 (length m.table + length (offered m.submissions k))) refl h
-  where
-    by : (b : Bool) → ltb 65536 (length m.table + length (offered m.submissions k)) ≡ b → cond b (Some RequestsFull) None ≡ None → length m.table + length (offered m.submissions k) ≤ 65536
-    by true e k' = absurd cc
-    by false e k' = grind (arith, nat_tests)
+accepted_fits = grind arith
 
 -- ---- Words
 
@@ -34,16 +27,4 @@ pub take_is_taken : (m : Machine) (k count taken_rows : ℕ) (ring : SubWords) (
     → rows ≡ m.table ++ rows_of m.world (length m.table) (entries_for m k) → taken_rows ≡ length (entries_for m k)
     → ring ≡ record m.submissions { head = (m.submissions.head + count) % 2 ^ 32; dropped = (m.submissions.dropped + (count - taken_rows)) % 2 ^ 32 }
     → record m { submissions = ring; table = rows } ≡ taken m k
-take_is_taken m k count taken_rows ring rows w l r t e = ap (λ n. built n rows) e ∙ ap (λ n. built (moved n taken_rows) rows) number ∙ ap (λ n. built (moved (length words) n) rows) t ∙ ap (built (moved (length words) (length (entries_for m k)))) r
-  where
-    words : List ℕ
-    words = words_for m k
-
-    number : count ≡ length words
-    number = sym (length-take-le count (sub_list m.submissions) l) ∙ ap length w
-
-    moved : ℕ → ℕ → SubWords
-    moved n d = record m.submissions { head = (m.submissions.head + n) % 2 ^ 32; dropped = (m.submissions.dropped + (n - d)) % 2 ^ 32 }
-
-    built : SubWords → List Row → Machine
-    built s rs = record m { submissions = s; table = rs }
+take_is_taken = grind (arith, length-take-le)

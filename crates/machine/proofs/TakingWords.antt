@@ -1,17 +1,12 @@
 -- Reading the words of the submission ring, and the entries that they refer to.
 use Rattle.std.proofs.Common.{◌≡◌, ℕ, zero, suc, Bool, true, false, cond, refl, sym, ◌∙◌, ap, List, [], ◌∷◌, ◌++◌, length, take, drop, ◌+◌, ◌-◌, ◌<◌, ◌≤◌, arith}
-use Rattle.std.specs.Prelude.{Option, Some, None, is_some, slice_get, min}
+use Rattle.std.specs.Prelude.{Some, None, is_some, slice_get, min}
 use Rattle.std.proofs.lemmas.Grind.{common_steps}
-use Rattle.std.proofs.Math.Dec.{ltb}
-use Rattle.std.proofs.lemmas.Bool.Decides.{nat_tests}
 use Rattle.std.proofs.lemmas.List.{append-nil, take_more}
 use Rattle.std.proofs.lemmas.List.Elements.{filter_map-append}
 use Rattle.std.proofs.lemmas.Option.{slice_get_within, get_or_from_slice_get}
 use Rattle.entries.specs.declared.entry.Sqe.{Sqe}
 use Rattle.machine.specs.Submission.{entries_at, up_to_entry}
-
-pub lt-ltb : (a b : ℕ) → a < b → ltb a b ≡ true
-lt-ltb a b h = grind (arith, nat_tests)
 
 -- To take more items than there are takes all of them.
 pub take_least : {X : Type 0} (k : ℕ) (xs : List X) → take (min k (length xs)) xs ≡ take k xs
@@ -30,22 +25,14 @@ entries-skipped slots words x h = filter_map-append (slice_get slots) words (x �
 
 -- How many entries one more word refers to.
 entries_more : (slots : List Sqe) (x : ℕ) (words : List ℕ) → length (entries_at slots (x ∷ words)) ≡ cond (is_some (slice_get slots x)) (suc (length (entries_at slots words))) (length (entries_at slots words))
-entries_more slots x words = by (slice_get slots x) refl
-  where
-    by : (o : Option Sqe) → slice_get slots x ≡ o → length (entries_at slots (x ∷ words)) ≡ cond (is_some (slice_get slots x)) (suc (length (entries_at slots words))) (length (entries_at slots words))
-    by None h = rw h refl
-    by (Some e) h = rw h refl
+entries_more = grind arith
 
 -- ---- Up to the n-th entry
 
 pub length-up_to_entry : (slots : List Sqe) (n : ℕ) (words : List ℕ) → length (up_to_entry slots n words) ≤ length words
 length-up_to_entry slots zero words = omega arith
 length-up_to_entry slots (suc n) [] = omega arith
-length-up_to_entry slots (suc n) (x ∷ words) = by (is_some (slice_get slots x)) (length-up_to_entry slots n words) (length-up_to_entry slots (suc n) words)
-  where
-    by : (b : Bool) → length (up_to_entry slots n words) ≤ length words → length (up_to_entry slots (suc n) words) ≤ length words → suc (length (up_to_entry slots (cond b n (suc n)) words)) ≤ suc (length words)
-    by true h k = omega (arith, h)
-    by false h k = omega (arith, k)
+length-up_to_entry slots (suc n) (x ∷ words) = grind (arith, length-up_to_entry slots n words, length-up_to_entry slots (suc n) words)
 
 -- `count` words were read, and `left` entries remain to be found.
 pub record Reading (slots : List Sqe) (words : List ℕ) (n count left : ℕ) : Type 0 where
@@ -60,21 +47,14 @@ drop_there (y ∷ words) zero x h = let e : y ≡ x = cc in let m : suc zero ≡
 drop_there (y ∷ words) (suc i) x h = let m : suc (i + 1) ≡ suc i + 1 = omega arith in drop_there words i x h ∙ ap (λ k. x ∷ drop k (y ∷ words)) m
 
 past_end : (words : List ℕ) (i : ℕ) → length words ≤ i → drop i words ≡ []
-past_end [] zero h = refl
-past_end [] (suc i) h = refl
-past_end (y ∷ words) zero h = absurd (omega (arith, h))
-past_end (y ∷ words) (suc i) h = past_end words i (omega (arith, h))
+past_end = grind (arith, common_steps)
 
 -- While entries remain, there is a next word.
 pub reading_there : (slots : List Sqe) (words : List ℕ) (n count left : ℕ) → Reading slots words n count left → 0 < left → count < length words
-reading_there slots words n count left r l = grind (arith, less)
-  where
-    less : length words ≤ count → left ≤ 0
-    less h = let m = r.named in let e = ap (λ ws. length (entries_at slots ws)) (past_end words count h) in omega (arith, m, e)
+reading_there = grind (arith, past_end)
 
 step_taken : (slots : List Sqe) (x : ℕ) (words : List ℕ) (left : ℕ) (b : Bool) → is_some (slice_get slots x) ≡ b → 0 < left → up_to_entry slots left (x ∷ words) ≡ x ∷ up_to_entry slots (cond b (left - 1) left) words
-step_taken slots x words zero b h l = absurd (omega (arith, l))
-step_taken slots x words (suc left) b h l = let m : suc left - 1 ≡ left = omega arith in ap (λ c. x ∷ up_to_entry slots (cond c left (suc left)) words) h ∙ ap (λ k. x ∷ up_to_entry slots (cond b k (suc left)) words) (sym m)
+step_taken = grind arith
 
 -- One more word is read.
 pub reading_on : (slots : List Sqe) (words : List ℕ) (n count left x : ℕ) (b : Bool) → Reading slots words n count left → 0 < left → slice_get words count ≡ Some x → is_some (slice_get slots x) ≡ b → Reading slots words n (count + 1) (cond b (left - 1) left)

@@ -1,5 +1,5 @@
 -- Cascades are complete, because the target of an unfinished linked timeout is no linked timeout.
-use Rattle.std.proofs.Common.{◌≡◌, ℕ, false, sym, ◌∙◌, ap, List, ◌++◌, length, ◌+◌, ◌⊎◌, inl, inr}
+use Rattle.std.proofs.Common.{◌≡◌, ℕ, false, List, ◌++◌, length, ◌+◌, ◌⊎◌, inl, inr, arith}
 use Rattle.std.specs.Prelude.{Some, slice_get}
 use Rattle.entries.specs.declared.row.Row.{Row}
 use Rattle.links_drains.specs.Batches.{rows_of}
@@ -9,13 +9,11 @@ use Rattle.machine.specs.Steps.{entries_for, taken}
 use Rattle.machine.specs.Whole.{GuardIsLinked, WellFormed}
 use Rattle.machine.specs.declared.whole.Machine.{Machine}
 use Rattle.machine.proofs.FormedSubmissions.{old_or_new}
-use Rattle.machine.proofs.GuardLemmas.{batch_target, guard_before, same_row}
+use Rattle.machine.proofs.GuardLemmas.{batch_target, guard_before}
 
 -- The target of a linked timeout is no linked timeout.
 target_is_no_guard : (rows : List Row) (r t : ℕ) (x target : Row) → GuardIsLinked rows r x → x.target ≡ Some t → slice_get rows t ≡ Some target → is_guard target ≡ false
-target_is_no_guard rows r t x target s k g =
-    let same : s.target ≡ t = let o = sym s.is ∙ k in cc in
-    ap is_guard (sym (same_row s.row target (sym s.there ∙ ap (slice_get rows) same ∙ g))) ∙ s.other
+target_is_no_guard = grind arith
 
 pub guards_formed : (m : Machine) → WellFormed m → GuardsFormed m.table
 guards_formed m f r t x target e g u k h = target_is_no_guard m.table r t x target (f.guards r x e g u) k h

@@ -59,11 +59,7 @@ pub joined_nothing : (f g : ℕ → Row → Option ℤ) (rows : List Row)
 joined_nothing f g rows h = alike (λ r row. or_else (result_in (endings g rows) r) (f r row)) g rows (λ r row e. by r row e (is_unfinished row.phase) refl)
   where
     at : (r : ℕ) (row : Row) → (o : Option ℤ) → (o ≡ None → f r row ≡ None) → or_else o (f r row) ≡ o
-    at r row None k = k refl
-    at r row (Some res) k = refl
+    at = grind arith
 
     by : (r : ℕ) (row : Row) → slice_get rows r ≡ Some row → (b : Bool) → is_unfinished row.phase ≡ b → cond b (or_else (result_in (endings g rows) r) (f r row)) None ≡ cond b (g r row) None
-    by r row e true u =
-        let l = listed_row g rows r row e u in
-        ap (λ o. or_else o (f r row)) l ∙ at r row (g r row) (h r row e u)
-    by r row e false u = refl
+    by = grind (arith, listed_row, at)

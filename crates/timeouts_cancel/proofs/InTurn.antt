@@ -1,28 +1,20 @@
 -- Two searches for a match in turn: upwards through the issued requests, and downwards through those
 -- with a hash.
-use Rattle.std.proofs.Common.{◌≡◌, ℕ, zero, suc, Bool, true, false, cond, refl, sym, ◌∙◌, ap, subst, List, [], ◌∷◌, length, ◌+◌, ◌-◌, ◌<◌, ◌≤◌, inl, inr, arith}
-use Rattle.std.specs.Prelude.{Option, Some, None, IfSome, slice_get, ◌==◌}
-use Rattle.std.proofs.lemmas.Bool.{cases_lt}
+use Rattle.std.proofs.Common.{◌≡◌, ℕ, zero, suc, Bool, true, false, cond, refl, sym, ◌∙◌, ap, subst, List, [], ◌∷◌, length, ◌+◌, ◌-◌, ◌<◌, ◌≤◌, arith}
+use Rattle.std.specs.Prelude.{Option, Some, None, IfSome, slice_get}
 use Rattle.std.proofs.lemmas.Option.{slice_get_within}
 use Rattle.entries.specs.declared.row.Row.{Row}
 use Rattle.links_drains.specs.Finders.{NoUser}
 use Rattle.timeouts_cancel.specs.declared.matching.Key.{Key}
-use Rattle.timeouts_cancel.specs.Matches.{fits_key, is_match, user_of, FoundPast, IsMatch, NoMatch}
+use Rattle.timeouts_cancel.specs.Matches.{is_match, user_of, FoundPast, IsMatch, NoMatch}
 
 -- ---- Requests that can't match
 
 pub one_fails : (rows : List Row) (key : Key) (me r : ℕ) (row : Row) → slice_get rows r ≡ Some row → is_match key me r row ≡ false → NoMatch rows key me r
 one_fails rows key me r row h fails = λ x g. let same : row ≡ x = let k : Some row ≡ Some x = sym h ∙ g in cc in ap (is_match key me r) (sym same) ∙ fails
 
-unfit : (key : Key) (me r : ℕ) (row : Row) → fits_key key row ≡ false → is_match key me r row ≡ false
-unfit = grind arith
-
--- A request with another user_data.
-other_user : (key : Key) (user_data : ℕ) (row : Row) → user_of key ≡ Some user_data → (row.entry.user_data == user_data) ≡ false → fits_key key row ≡ false
-other_user = grind arith
-
 without_user : (rows : List Row) (key : Key) (me user_data low high : ℕ) → user_of key ≡ Some user_data → NoUser user_data rows low high → (i : ℕ) (x : Row) → low ≤ i → i < high → slice_get rows i ≡ Some x → is_match key me i x ≡ false
-without_user rows key me user_data low high e none i x l k g = unfit key me i x (other_user key user_data x e (none i x l k g))
+without_user = grind arith
 
 -- ---- Downwards
 
@@ -35,28 +27,8 @@ found_last = grind arith
 
 -- It doesn't.
 pub found_before : (rows : List Row) (key : Key) (me user_data from last end : ℕ) (least : Option (ℕ × Row)) → user_of key ≡ Some user_data → end ≤ last → NoUser user_data rows end last → NoMatch rows key me last → FoundPast rows key me from (last + 1) least → FoundPast rows key me from end least
-found_before rows key me user_data from last end least e below none fails h = by least h
-  where
-    passed : (i : ℕ) (x : Row) → end ≤ i → slice_get rows i ≡ Some x → (last + 1 ≤ i → is_match key me i x ≡ false) → is_match key me i x ≡ false
-    passed i x low g later = elim (cases_lt i last) [
-      | inl less ↦ without_user rows key me user_data end last e none i x low less g
-      | inr more ↦ elim (cases_lt last i) [
-        | inl past ↦ later (omega (arith, past))
-        | inr here ↦ let s : i ≡ last = omega (arith, more, here) in ap (λ r. is_match key me r x) s ∙ fails x (ap (slice_get rows) (sym s) ∙ g)
-      ]
-    ]
-
-    by : (o : Option (ℕ × Row)) → FoundPast rows key me from (last + 1) o → FoundPast rows key me from end o
-    by None k = λ i x low g. passed i x low g (λ l. k i x l g)
-    by (Some p) k = (
-      k.0,
-      record {
-        after = let a = k.1.after in omega (arith, a, below);
-        there = k.1.there;
-        matching = k.1.matching;
-        least = λ i x low high g. passed i x low g (λ l. k.1.least i x l high g);
-      },
-    )
+found_before rows key me user_data from last end None e below none fails h = grind (arith, without_user)
+found_before rows key me user_data from last end (Some p) e below none fails h = grind (arith, without_user)
 
 -- One request further down.
 pub found_step : (rows : List Row) (key : Key) (me user_data from end lower : ℕ) (row : Row) (later least : Option (ℕ × Row)) → user_of key ≡ Some user_data → from < end → lower ≤ end - 1 → NoUser user_data rows lower (end - 1) → slice_get rows (end - 1) ≡ Some row
@@ -67,10 +39,7 @@ found_step rows key me user_data from end lower row later least e low below none
   where
     by : (b : Bool) → is_match key me (end - 1) row ≡ b → FoundPast rows key me from lower (cond b (Some (end - 1, row)) later)
     by true k = found_last rows key me user_data from (end - 1) lower (end - 1, row) e (omega (arith, low)) below none (record { number = refl; there = there; matching = k })
-    by false k =
-        let fails : NoMatch rows key me (end - 1) = one_fails rows key me (end - 1) row there k in
-        let Q : ℕ → Type 0 = λ n. FoundPast rows key me from n later in
-        found_before rows key me user_data from (end - 1) lower later e below none fails (subst Q (let n : end ≡ end - 1 + 1 = omega (arith, low) in n) h)
+    by false k = let n : end ≡ end - 1 + 1 = omega (arith, low) in found_before rows key me user_data from (end - 1) lower later e below none (one_fails rows key me (end - 1) row there k) (rw n at h)
 
 pub there : (rows : List Row) (i : ℕ) → i < length rows → (row : Row) × (slice_get rows i ≡ Some row)
 there [] i h = absurd (omega (arith, h))

@@ -1,14 +1,13 @@
 -- Merging two lists of completions, one by one.
-use Rattle.std.proofs.Common.{◌≡◌, ℕ, ℤ, sym, ◌∙◌, ap, List, [], ◌∷◌, ◌++◌, length, ◌+◌, ◌-◌, ◌<◌, ◌≤◌, arith}
+use Rattle.std.proofs.Common.{◌≡◌, ℕ, ℤ, sym, ◌∙◌, List, [], ◌∷◌, ◌++◌, length, ◌+◌, ◌-◌, ◌<◌, ◌≤◌, arith}
 use Rattle.std.specs.Prelude.{Option, Some, None, slice_get}
 use Rattle.entries.specs.declared.row.Row.{Row}
-use Rattle.links_drains.specs.Endings.{Ending, result_in, paired, or_else, Direct}
+use Rattle.links_drains.specs.Endings.{Ending, result_in, or_else, Direct}
 use Rattle.links_drains.proofs.Listing.{result_of}
 use Rattle.timeouts_cancel.specs.Cascades.{joined}
 use Rattle.timeouts_cancel.specs.Merges.{Splits, IsLeast, Merged}
-use Rattle.timeouts_cancel.specs.Walks.{upto}
 use Rattle.timeouts_cancel.proofs.Listed.{splits_to, splits_out, splits_past, upto_all}
-use Rattle.timeouts_cancel.proofs.Walking.{of_one, result_at, upto_more, upto_gap}
+use Rattle.timeouts_cancel.proofs.Walking.{result_at, upto_next}
 
 -- The result in the first list, or else in the second.
 abbrev pub both_of : List Ending → List Ending → ℕ → Row → Option ℤ
@@ -37,17 +36,9 @@ there_is = grind (arith, result_of, result_at, least_on, splits_to, splits_out)
 pub merged_next : (rows : List Row) (first second : List Ending) (k i j p q : ℕ) (es fs : List Ending) (e : Ending) → Direct rows first → Direct rows second → Merged rows first second k i j es → IsLeast first second i j e
     → Splits first (e.0 + 1) p → Splits second (e.0 + 1) q → fs ≡ es ++ e ∷ [] → Merged rows first second (e.0 + 1) p q fs
 merged_next rows first second k i j p q es fs e d f m least a b h =
-    let low = least_on rows first second k i j es e m least in
-    let n : k + (e.0 - k) ≡ e.0 = omega (arith, low) in
     let w = there_is rows first second k i j es e d f m least in
-    let gap = upto_gap (both_of first second) rows k (e.0 - k) (λ r row l g t. between r row l (omega (arith, g, low))) in
-    record {
-      listed = h ∙ ap (λ xs. xs ++ e ∷ []) (m.listed ∙ sym gap ∙ ap (upto (both_of first second) rows) n)
-          ∙ ap (λ o. upto (both_of first second) rows e.0 ++ of_one (paired e.0 o)) (sym w.2)
-          ∙ sym (upto_more (both_of first second) rows e.0 w.0 w.1);
-      firsts = a;
-      seconds = b;
-    }
+    let next = upto_next (both_of first second) rows k e.0 es w.0 m.listed (least_on rows first second k i j es e m least) (λ r row l g t. between r row l g) w.1 in
+    record { listed = h ∙ sym (rw w.2 at next); firsts = a; seconds = b }
   where
     between : (r : ℕ) (row : Row) → k ≤ r → r < e.0 → result_of (both_of first second) r row ≡ None
     between r row l g =

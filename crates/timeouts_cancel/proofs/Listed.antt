@@ -1,5 +1,5 @@
 -- Lists of completions: their length, and where a row number splits them.
-use Rattle.std.proofs.Common.{◌≡◌, ℕ, ℤ, Bool, true, false, cond, refl, sym, ◌∙◌, ap, List, [], ◌∷◌, length, ◌+◌, ◌<◌, ◌≤◌, arith}
+use Rattle.std.proofs.Common.{◌≡◌, ℕ, ℤ, Bool, true, cond, refl, sym, ◌∙◌, ap, List, [], ◌∷◌, length, ◌+◌, ◌<◌, ◌≤◌, arith}
 use Rattle.std.specs.Prelude.{Option, Some, None, slice_get, ◌==◌}
 use Rattle.std.proofs.lemmas.List.{take_all}
 use Rattle.std.proofs.lemmas.Option.{slice_get_within}
@@ -47,8 +47,7 @@ pub joined_none : (f : ℕ → Row → Option ℤ) (rows : List Row) → joined 
 joined_none f rows = alike (λ r row. or_else (result_in (endings f rows) r) None) f rows (λ r row h. by r row h (is_unfinished row.phase) refl)
   where
     by : (r : ℕ) (row : Row) → slice_get rows r ≡ Some row → (b : Bool) → is_unfinished row.phase ≡ b → cond b (or_else (result_in (endings f rows) r) None) None ≡ cond b (f r row) None
-    by r row h true u = or_else_same (result_in (endings f rows) r) ∙ listed_row f rows r row h u
-    by r row h false u = refl
+    by = grind (arith, or_else_same, listed_row)
 
 -- ---- Splitting a list at a row number
 

@@ -1,5 +1,5 @@
 -- Finding matches, one by one.
-use Rattle.std.proofs.Common.{◌≡◌, ℕ, Bool, true, false, not, cond, refl, sym, ◌∙◌, ap, List, [], ◌∷◌, ◌++◌, take, ◌+◌, arith}
+use Rattle.std.proofs.Common.{◌≡◌, ℕ, Bool, false, not, cond, sym, ◌∙◌, ap, List, [], ◌∷◌, ◌++◌, take, ◌+◌, arith}
 use Rattle.std.specs.Prelude.{Some, map, option_map, slice_get, length, ◌&&◌}
 use Rattle.std.specs.List.{filter, enumerate_from}
 use Rattle.std.proofs.lemmas.Bool.{and_left}
@@ -79,8 +79,7 @@ waiting_on rows w key me from r row b m e =
     ∙ ap (λ xs. waiting_to rows w key me from ++ xs) (by b)
   where
     by : (b : Bool) → map number (cond (not b) ((r, row) ∷ []) []) ≡ cond b [] (r ∷ [])
-    by true = refl
-    by false = refl
+    by = grind arith
 
 pub waiting_past : (rows : List Row) (w : WorldState) (key : Key) (me from : ℕ) → NoMatchFrom rows key me from → waiting_to rows w key me from ≡ waiting_by rows w key me
 waiting_past rows w key me from none = ap (map (λ (p : ℕ × Row). p.0)) (none_after (waits_in w key me) from (enumerate_from 0 rows) (λ i p low g. numbered (waits_in w key me) rows i p (λ x h. not_waiting w key me (i, x) (none i x low h)) g))

@@ -1,15 +1,15 @@
 -- Finding the TIMEOUTs whose count is reached, one by one.
-use Rattle.std.proofs.Common.{◌≡◌, ℕ, ℤ, pos, true, false, sym, ◌∙◌, ap, List, [], ◌∷◌, ◌++◌, ◌+◌, ◌-◌, arith}
+use Rattle.std.proofs.Common.{◌≡◌, ℕ, ℤ, pos, true, false, sym, ◌∙◌, List, [], ◌∷◌, ◌++◌, ◌+◌, ◌-◌, arith}
 use Rattle.std.specs.Prelude.{Option, Some, None}
 use Rattle.entries.specs.declared.row.Row.{Row}
-use Rattle.links_drains.specs.Endings.{Ending, paired, given}
+use Rattle.links_drains.specs.Endings.{Ending, given}
 use Rattle.links_drains.proofs.Listing.{result_of}
 use Rattle.timeouts_cancel.specs.Cascades.{is_met}
 use Rattle.links_drains.specs.Counts.{IsNextMet, NoneMetFrom}
 use Rattle.timeouts_cancel.specs.Timers.{met_rows}
 use Rattle.timeouts_cancel.specs.Walks.{upto}
 use Rattle.timeouts_cancel.proofs.Listed.{upto_all}
-use Rattle.timeouts_cancel.proofs.Walking.{of_one, upto_more, upto_gap}
+use Rattle.timeouts_cancel.proofs.Walking.{upto_next}
 
 -- ---- From one such TIMEOUT to the next
 
@@ -25,12 +25,8 @@ its_result = grind arith
 
 pub met_next : (rows : List Row) (total from r : ℕ) (es fs : List Ending) → es ≡ upto (met_result total) rows from → IsNextMet rows total from r → fs ≡ es ++ (r, pos 0) ∷ [] → fs ≡ upto (met_result total) rows (r + 1)
 met_next rows total from r es fs h next g =
-    let low = next.after in
-    let n : from + (r - from) ≡ r = omega (arith, low) in
-    let gap = upto_gap (met_result total) rows from (r - from) (λ i x l m t. unmet_result total i x (next.least i x l (omega (arith, m, low)) t)) in
-    g ∙ ap (λ xs. xs ++ (r, pos 0) ∷ []) (h ∙ sym gap ∙ ap (upto (met_result total) rows) n)
-    ∙ ap (λ o. upto (met_result total) rows r ++ of_one (paired r o)) (sym (its_result total r next.row next.met))
-    ∙ sym (upto_more (met_result total) rows r next.row next.there)
+    let more = upto_next (met_result total) rows from r es next.row h next.after (λ i x l m t. unmet_result total i x (next.least i x l m t)) next.there in
+    g ∙ sym (rw (its_result total r next.row next.met) at more)
 
 pub met_all : (rows : List Row) (total from : ℕ) (es : List Ending) → es ≡ upto (met_result total) rows from → NoneMetFrom rows total from → es ≡ met_rows rows total
 met_all rows total from es h none = h ∙ upto_all (met_result total) rows from (λ r row l t. unmet_result total r row (none r row l t))

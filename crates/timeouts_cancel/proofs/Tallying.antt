@@ -1,6 +1,6 @@
 -- How many listed completions count for TIMEOUTs.
 use Rattle.std.proofs.Common.{◌≡◌, ℕ, ℤ, zero, suc, Bool, true, false, cond, refl, sym, ◌∙◌, ap, subst, List, [], ◌∷◌, length, ◌+◌, ◌≤◌, arith}
-use Rattle.std.specs.Prelude.{Option, Some, None, slice_get, is_some, ◌&&◌}
+use Rattle.std.specs.Prelude.{Option, Some, slice_get, is_some, ◌&&◌}
 use Rattle.std.specs.Option.{option_map_or}
 use Rattle.std.specs.List.{filter, cons_option}
 use Rattle.std.proofs.lemmas.Bool.{eqb-true}
@@ -29,12 +29,7 @@ tallied look f n (row ∷ rows) h =
   where
     by : (o : Option ℤ) (a b : Bool) → look n ≡ a → a ≡ b → length (filter (λ (e : Ending). look e.0) (endings_from f (n + 1) rows)) ≡ tally f (n + 1) rows
         → length (filter (λ (e : Ending). look e.0) (cons_option (paired n o) (endings_from f (n + 1) rows))) ≡ cond (b && is_some o) 1 0 + tally f (n + 1) rows
-    by None a true g e k = omega (arith, k)
-    by None a false g e k = omega (arith, k)
-    by (Some res) true true g e k = rw g (omega (arith, k))
-    by (Some res) false false g e k = rw g (omega (arith, k))
-    by (Some res) true false g e k = absurd cc
-    by (Some res) false true g e k = absurd cc
+    by = grind arith
 
 tally_alike : (f g : ℕ → Row → Option ℤ) (n : ℕ) (rows : List Row) → ((i : ℕ) (row : Row) → slice_get rows i ≡ Some row → counts row ≡ true → is_some (result_of f (n + i) row) ≡ is_some (result_of g (n + i) row)) → tally f n rows ≡ tally g n rows
 tally_alike f g n [] h = refl
@@ -46,8 +41,7 @@ tally_alike f g n (row ∷ rows) h =
   where
     by : (b : Bool) → counts row ≡ b → (counts row ≡ true → is_some (result_of f n row) ≡ is_some (result_of g n row)) → tally f (n + 1) rows ≡ tally g (n + 1) rows
         → cond (b && is_some (result_of f n row)) 1 0 + tally f (n + 1) rows ≡ cond (b && is_some (result_of g n row)) 1 0 + tally g (n + 1) rows
-    by true e k more = ap (λ c. cond c 1 0 + tally f (n + 1) rows) (k e) ∙ ap (λ t. cond (is_some (result_of g n row)) 1 0 + t) more
-    by false e k more = ap (λ t. 0 + t) more
+    by = grind arith
 
 -- Two functions that have results for the same counted rows have the same count.
 pub counted_alike : (f g : ℕ → Row → Option ℤ) (rows : List Row) → ((r : ℕ) (row : Row) → slice_get rows r ≡ Some row → is_unfinished row.phase ≡ true → counts row ≡ true → is_some (f r row) ≡ is_some (g r row))
@@ -61,11 +55,7 @@ counted_alike f g rows h = tallied look f 0 rows at ∙ tally_alike f g 0 rows b
     at i row e = let m : 0 + i ≡ i = omega arith in ap (λ k. option_map_or counts (slice_get rows k) false) m ∙ ap (λ (o : Option Row). option_map_or counts o false) e
 
     both_ways : (i : ℕ) (row : Row) → slice_get rows i ≡ Some row → counts row ≡ true → is_some (result_of f (0 + i) row) ≡ is_some (result_of g (0 + i) row)
-    both_ways i row e c = let m : 0 + i ≡ i = omega arith in subst (λ k. is_some (result_of f k row) ≡ is_some (result_of g k row)) (sym m) (by (is_unfinished row.phase) refl)
-      where
-        by : (b : Bool) → is_unfinished row.phase ≡ b → is_some (cond b (f i row) None) ≡ is_some (cond b (g i row) None)
-        by true u = h i row e u c
-        by false u = refl
+    both_ways = grind arith
 
 pub few_counted : (rows : List Row) (es : List Ending) → counted_in rows es ≤ length es
 few_counted rows [] = omega arith

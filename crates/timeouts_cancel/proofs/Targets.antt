@@ -1,11 +1,11 @@
 -- Finding the linked timeouts of listed requests, one by one.
-use Rattle.std.proofs.Common.{◌≡◌, ℕ, ℤ, Bool, true, false, cond, refl, sym, ◌∙◌, ap, List, ◌++◌, length, ◌+◌, ◌-◌, ◌<◌, ◌≤◌, ◌⊎◌, inl, inr, arith}
+use Rattle.std.proofs.Common.{◌≡◌, ℕ, ℤ, Bool, true, false, cond, refl, ◌∙◌, ap, List, ◌++◌, length, ◌+◌, ◌-◌, ◌<◌, ◌≤◌, ◌⊎◌, arith}
 use Rattle.std.specs.Prelude.{Option, Some, None, slice_get}
 use Rattle.std.specs.Option.{option_map_or}
 use Rattle.std.proofs.lemmas.List.{append-nil}
 use Rattle.std.proofs.lemmas.Option.{slice_get_within}
 use Rattle.entries.specs.declared.row.Row.{Row}
-use Rattle.links_drains.specs.Endings.{Ending, endings, paired, given, ecanceled, Direct}
+use Rattle.links_drains.specs.Endings.{Ending, paired, given, ecanceled, Direct}
 use Rattle.links_drains.specs.Links.{is_guard}
 use Rattle.links_drains.specs.Phases.{is_unfinished}
 use Rattle.links_drains.proofs.Listing.{result_of}
@@ -15,7 +15,7 @@ use Rattle.timeouts_cancel.specs.Walks.{upto}
 use Rattle.timeouts_cancel.proofs.Again.{any_at, any_found}
 use Rattle.timeouts_cancel.proofs.Listed.{upto_all}
 use Rattle.timeouts_cancel.proofs.Sweeping.{same_ending}
-use Rattle.timeouts_cancel.proofs.Walking.{of_one, split, take_past, upto_more, upto_gap}
+use Rattle.timeouts_cancel.proofs.Walking.{of_one, split, take_past, upto_more, upto_to}
 
 -- The result of a linked timeout.
 abbrev pub guard_result : List Ending → ℕ → Row → Option ℤ
@@ -61,35 +61,17 @@ guarded_next rows listed i es fs e b linked d w h g k = record {
     f = guard_result listed
 
     low : (j : ℕ) (p : Ending) → slice_get listed j ≡ Some p → j < i + 1 → (j < i) ⊎ (i ≤ j) → p.0 + 1 < e.0 + 1 + 1
-    low j p q l (inl a) = let x = d.rising j i p e q h a in omega (arith, x)
-    low j p q l (inr a) = let n : j ≡ i = omega (arith, a, l) in let x = ap (λ (y : Ending). y.0) (same_ending p e (sym q ∙ ap (slice_get listed) n ∙ h)) in omega (arith, x)
+    low = grind arith
 
     none : (r : ℕ) (row : Row) → w.to ≤ r → r < e.0 + 1 → slice_get rows r ≡ Some row → result_of f r row ≡ None
-    none r row l m t = no_guard rows listed r row linked t (λ j p q same. by j p q same (split j i))
-      where
-        by : (j : ℕ) (p : Ending) → slice_get listed j ≡ Some p → p.0 + 1 ≡ r → (j < i) ⊎ (i ≤ j) → ⊥
-        by j p q same (inl a) = let x = w.below j p q a in omega (arith, x, same, l)
-        by j p q same (inr a) = from (split i j)
-          where
-            from : (i < j) ⊎ (j ≤ i) → ⊥
-            from (inl y) = let x = d.rising i j e p h q y in omega (arith, x, same, m)
-            from (inr y) = let n : j ≡ i = omega (arith, a, y) in let x = ap (λ (z : Ending). z.0) (same_ending p e (sym q ∙ ap (slice_get listed) n ∙ h)) in omega (arith, x, same, m)
+    none = grind (arith, no_guard, split, same_ending)
 
     before : es ≡ upto f rows (e.0 + 1)
-    before =
-        let high = w.above i e h (omega arith) in
-        let n : w.to + (e.0 + 1 - w.to) ≡ e.0 + 1 = omega (arith, high) in
-        w.found ∙ sym (upto_gap f rows w.to (e.0 + 1 - w.to) (λ r row l m t. none r row l (omega (arith, m, high)) t)) ∙ ap (upto f rows) n
+    before = upto_to f rows w.to (e.0 + 1) es w.found (w.above i e h (omega arith)) (λ r row l m t. none r row l m t)
 
     beyond : (o : Option Row) → slice_get rows (e.0 + 1) ≡ o → upto f rows (e.0 + 1) ++ of_one (paired (e.0 + 1) (cond (option_map_or (guards_row e.0) (slice_get rows (e.0 + 1)) false) (Some ecanceled) None)) ≡ upto f rows (e.0 + 1 + 1)
-    beyond None t =
-        ap (λ (o : Option Row). upto f rows (e.0 + 1) ++ of_one (paired (e.0 + 1) (cond (option_map_or (guards_row e.0) o false) (Some ecanceled) None))) t
-        ∙ append-nil (upto f rows (e.0 + 1))
-        ∙ ap (endings f) (sym (take_past rows (e.0 + 1) t))
-    beyond (Some row) t =
-        ap (λ (o : Option Row). upto f rows (e.0 + 1) ++ of_one (paired (e.0 + 1) (cond (option_map_or (guards_row e.0) o false) (Some ecanceled) None))) t
-        ∙ ap (λ o. upto f rows (e.0 + 1) ++ of_one (paired (e.0 + 1) o)) (sym (its_guard rows listed i e row linked h t))
-        ∙ sym (upto_more f rows (e.0 + 1) row t)
+    beyond None t = rw (t, take_past rows (e.0 + 1) t) (append-nil (upto f rows (e.0 + 1)))
+    beyond (Some row) t = let g = its_guard rows listed i e row linked h t in rw (upto_more f rows (e.0 + 1) row t, g, t) refl
 
 pub guarded_all : (rows : List Row) (listed : List Ending) (i : ℕ) (es : List Ending) → GuardsAreLinked rows → Guarded rows listed i es → length listed ≤ i → es ≡ guarding rows listed
 guarded_all = grind (arith, upto_all, no_guard, slice_get_within)

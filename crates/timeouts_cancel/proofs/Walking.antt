@@ -1,5 +1,5 @@
 -- Processing the direct completions, and the requests that they sever, in one pass.
-use Rattle.std.proofs.Common.{◌≡◌, ℕ, ℤ, zero, suc, Bool, true, false, cond, refl, sym, ◌∙◌, ap, subst, List, [], ◌∷◌, ◌++◌, take, ◌+◌, ◌-◌, ◌<◌, ◌≤◌, ◌⊎◌, inl, inr, arith}
+use Rattle.std.proofs.Common.{◌≡◌, ℕ, ℤ, zero, suc, Bool, true, false, cond, refl, sym, ◌∙◌, ap, subst, List, [], ◌∷◌, ◌++◌, take, ◌+◌, ◌-◌, ◌<◌, ◌≤◌, ◌⊎◌, arith}
 use Rattle.std.specs.Prelude.{Option, Some, None, slice_get, ◌==◌, ◌&&◌}
 use Rattle.std.specs.List.{cons_option}
 use Rattle.std.proofs.lemmas.Bool.{eqb-true}
@@ -48,6 +48,14 @@ upto_gap f rows k (suc d) h =
         upto_more f rows (k + d) row e
         ∙ ap (λ o. upto f rows (k + d) ++ of_one (paired (k + d) o)) (h (k + d) row (omega arith) (omega arith) e)
         ∙ append-nil (upto f rows (k + d))
+
+-- From the first k rows to the first m, if no row between them has a result, and to the row m.
+pub upto_to : (f : ℕ → Row → Option ℤ) (rows : List Row) (k m : ℕ) (es : List Ending) → es ≡ upto f rows k → k ≤ m → ((r : ℕ) (row : Row) → k ≤ r → r < m → slice_get rows r ≡ Some row → result_of f r row ≡ None) → es ≡ upto f rows m
+upto_to f rows k m es e l h = let n : k + (m - k) ≡ m = omega arith in e ∙ sym (upto_gap f rows k (m - k) (λ r row a b. h r row a (omega arith))) ∙ ap (upto f rows) n
+
+pub upto_next : (f : ℕ → Row → Option ℤ) (rows : List Row) (k m : ℕ) (es : List Ending) (row : Row) → es ≡ upto f rows k → k ≤ m → ((r : ℕ) (row : Row) → k ≤ r → r < m → slice_get rows r ≡ Some row → result_of f r row ≡ None) → slice_get rows m ≡ Some row
+    → upto f rows (m + 1) ≡ es ++ of_one (paired m (result_of f m row))
+upto_next f rows k m es row e l h t = rw (upto_to f rows k m es e l h) (upto_more f rows m row t)
 
 -- ---- The result of a row after the second rule
 
@@ -98,38 +106,20 @@ between rows direct k i es r row w l next h =
     test_other rows direct r row h (λ j e g same. by j e g same (split j i)) ∙ none (is_unfinished row.phase) (is_severed rows (own_endings rows direct) r row) refl
   where
     by : (j : ℕ) (e : Ending) → slice_get direct j ≡ Some e → e.0 ≡ r → (j < i) ⊎ (i ≤ j) → ⊥
-    by j e g same (inl a) = let b = w.below j e g a in absurd (omega (arith, b, same, l))
-    by j e g same (inr a) = let b = next j e g a in absurd (omega (arith, b, same))
+    by = grind arith
 
     none : (u b : Bool) → is_severed rows (own_endings rows direct) r row ≡ b → cond u (given b ecanceled) None ≡ None
     none true false e = refl
     none false b e = refl
-    none true true e = absurd (let f = severed_so rows direct r row e in sever f.0 f.1 f.2 f.3 (split f.0 i))
-      where
-        sever : (j : ℕ) (e : Ending) → slice_get direct j ≡ Some e → Severs rows r row e → (j < i) ⊎ (i ≤ j) → ⊥
-        sever j e g s (inl a) = w.clear r row j e l h g a s
-        sever j e g s (inr a) = let b = next j e g a in let c = s.less in absurd (omega (arith, b, c))
+    none true true e = absurd (let f = severed_so rows direct r row e in let c : f.0 < i → ⊥ = λ a. w.clear r row f.0 f.1 l h f.2 a f.3 in let n = next f.0 f.1 f.2 in let x = f.3.less in grind arith)
 
 -- The rows up to and including a direct completion.
 pub listed_direct : (rows : List Row) (direct : List Ending) (k i : ℕ) (es : List Ending) (e : Ending) (row : Row) → Direct rows direct → Walked rows direct k i es → slice_get direct i ≡ Some e → slice_get rows e.0 ≡ Some row
     → es ++ e ∷ [] ≡ upto (result_by rows direct) rows (e.0 + 1)
 listed_direct rows direct k i es e row d w h t =
     let low = w.above i e h (omega arith) in
-    let m : k + (e.0 - k) ≡ e.0 = omega (arith, low) in
-    let gap = upto_gap (result_by rows direct) rows k (e.0 - k) (λ r x a b g. between rows direct k i es r x w a (λ j p q l. later r b j p q l) g) in
-    ap (λ xs. xs ++ e ∷ []) (w.listed ∙ sym gap ∙ ap (upto (result_by rows direct) rows) m)
-    ∙ ap (λ o. upto (result_by rows direct) rows e.0 ++ of_one (paired e.0 o)) (sym (test_direct rows direct i e row d h t))
-    ∙ sym (upto_more (result_by rows direct) rows e.0 row t)
-  where
-    later : (r : ℕ) → r < k + (e.0 - k) → (j : ℕ) (p : Ending) → slice_get direct j ≡ Some p → i ≤ j → r < p.0
-    later r b j p q l = by (split i j)
-      where
-        by : (i < j) ⊎ (j ≤ i) → r < p.0
-        by (inl a) = let x = d.rising i j e p h q a in let low = w.above i e h (omega arith) in omega (arith, x, b, low)
-        by (inr a) = let same : i ≡ j = omega (arith, a, l) in let k2 : Some e ≡ Some p = sym h ∙ ap (slice_get direct) same ∙ q in let n : e.0 ≡ p.0 = first e p k2 in let low = w.above i e h (omega arith) in omega (arith, n, b, low)
-          where
-            first : (e p : Ending) → Some e ≡ Some p → e.0 ≡ p.0
-            first e p g = cc
+    let next = upto_next (result_by rows direct) rows k e.0 es row w.listed low (λ r x a b g. between rows direct k i es r x w a (grind arith) g) t in
+    grind (arith, test_direct)
 
 pub below_next : (rows : List Row) (direct : List Ending) (k i : ℕ) (es : List Ending) (e : Ending) → Direct rows direct → Walked rows direct k i es → slice_get direct i ≡ Some e → (j : ℕ) (p : Ending) → slice_get direct j ≡ Some p → j < i + 1 → p.0 < e.0 + 1
 below_next = grind arith
@@ -144,23 +134,5 @@ walked_direct rows direct k i es e row d w h t n = record {
   listed = listed_direct rows direct k i es e row d w h t;
   below = below_next rows direct k i es e d w h;
   above = above_next rows direct i e d h;
-  clear = λ r x j p l g q a s. let low = w.above i e h (omega arith) in by r x j p l g q s low (split j i) a;
+  clear = λ r x j p l g q a s. let low = w.above i e h (omega arith) in let c : j < i → ⊥ = λ b. w.clear r x j p (omega (arith, l, low)) g q b s in grind arith;
 }
-  where
-    same_end : (p : Ending) → Some p ≡ Some e → p ≡ e
-    same_end p g = cc
-
-    by : (r : ℕ) (x : Row) (j : ℕ) (p : Ending) → e.0 + 1 ≤ r → slice_get rows r ≡ Some x → slice_get direct j ≡ Some p → Severs rows r x p → k ≤ e.0 → (j < i) ⊎ (i ≤ j) → j < i + 1 → ⊥
-    by r x j p l g q s low (inl b) a = w.clear r x j p (omega (arith, l, low)) g q b s
-    by r x j p l g q s low (inr b) a =
-        let m : j ≡ i = omega (arith, a, b) in
-        let o = same_end p (sym q ∙ ap (slice_get direct) m ∙ h) in
-        let z : s.before ≡ row = rows_same s.before row (sym s.there ∙ ap (λ (y : Ending). slice_get rows y.0) o ∙ t) in
-        let f : (is_soft_linked row && is_bad row e.1) ≡ true = ap (λ b. b && is_bad row e.1) (sym (ap is_soft_linked z) ∙ s.soft) ∙ sym (ap (λ (y : Ending). is_bad row y.1) o) ∙ sym (ap (λ (y : Row). is_bad y p.1) z) ∙ s.bad in
-        not_both f
-      where
-        rows_same : (a b : Row) → Some a ≡ Some b → a ≡ b
-        rows_same a b k = cc
-
-        not_both : (is_soft_linked row && is_bad row e.1) ≡ true → ⊥
-        not_both f = let y = sym n ∙ f in cc

@@ -1,16 +1,17 @@
 -- The cascade is complete: applying its rules again adds nothing.
-use Rattle.std.proofs.Common.{◌≡◌, ℕ, ℤ, pos, Bool, true, false, refl, sym, ◌∙◌, ap, subst, List, [], ◌∷◌, ◌+◌, ◌<◌, arith}
-use Rattle.std.specs.Prelude.{Option, Some, None, slice_get, ◌&&◌, nat_le}
+use Rattle.std.proofs.Common.{◌≡◌, ℕ, ℤ, pos, Bool, true, false, refl, sym, ◌∙◌, ap, List, [], ◌∷◌, ◌+◌, ◌<◌, arith}
+use Rattle.std.specs.Prelude.{Option, Some, None, slice_get}
 use Rattle.std.specs.Option.{option_map_or}
 use Rattle.std.proofs.lemmas.Bool.{eqb-true, eq-eqb}
 use Rattle.entries.specs.declared.row.Row.{Row}
 use Rattle.links_drains.specs.Phases.{is_unfinished}
 use Rattle.links_drains.specs.Endings.{Ending, result_in, given, or_else, is_listed, ecanceled}
 use Rattle.links_drains.specs.Links.{is_guard}
-use Rattle.timeouts_cancel.specs.Cascades.{joined, with_severed, with_met, with_guards, is_severed, is_bad, is_count_timeout, guards_listed, is_met, counted_in, fall_of, severs_by, GuardsFormed, IsWhole}
+use Rattle.timeouts_cancel.specs.Cascades.{joined, with_severed, with_met, with_guards, is_severed, guards_listed, is_met, counted_in, fall_of, severs_by, GuardsFormed, IsWhole}
 use Rattle.timeouts_cancel.specs.Walks.{Severs, own_endings, severed_endings}
 use Rattle.links_drains.proofs.Rising.{ends_at, rising}
 use Rattle.timeouts_cancel.proofs.Again.{any_at, any_found, result_there, listed_row, or_else_none, given_none, given_is, joined_nothing}
+use Rattle.timeouts_cancel.proofs.Walking.{result_at}
 use Rattle.timeouts_cancel.proofs.Tallying.{joined_counts, guard_counts, met_counts}
 use Rattle.timeouts_cancel.proofs.Severing.{both, guard_not_bad, timeout_not_bad, severs_is, severed_by, severs_then}
 
@@ -64,16 +65,20 @@ unlisted_none (e ∷ es) r h = grind (arith, unlisted_none es r)
 pub target_stays : (rows : List Row) (c : ℕ) (direct : List Ending) (r t : ℕ) (row target : Row) → slice_get rows r ≡ Some row → is_unfinished row.phase ≡ true → is_guard row ≡ true → row.target ≡ Some t
     → slice_get rows t ≡ Some target → is_unfinished target.phase ≡ true → is_guard target ≡ false → result_in (fall_of rows c direct) r ≡ None → result_in (fall_of rows c direct) t ≡ None
 target_stays rows c direct r t row target h u g k there v other n =
-    in_cascade rows c direct t target there v ∙ ap (λ o. or_else o (given (guards_listed (ms rows c direct) target) ecanceled)) none
-    ∙ ap (λ b. given (b && option_map_or (is_listed (ms rows c direct)) target.target false) ecanceled) other
-  where
-    out : is_listed (ms rows c direct) t ≡ false
-    out =
-        sym (ap (λ o. option_map_or (is_listed (ms rows c direct)) o false) k) ∙ sym (ap (λ b. b && option_map_or (is_listed (ms rows c direct)) row.target false) g)
-        ∙ (unlisted rows c direct r row h u n).guards
+    let w = unlisted rows c direct r row h u n in
+    let a = in_cascade rows c direct t target there v in
+    grind (arith, unlisted_none)
 
-    none : result_in (ms rows c direct) t ≡ None
-    none = unlisted_none (ms rows c direct) t out
+-- ---- The rows that complete
+
+abbrev pub last_test : List Row → ℕ → List Ending → ℕ → Row → Option ℤ
+last_test rows c direct r row = or_else (result_in (ms rows c direct) r) (given (guards_listed (ms rows c direct) row) ecanceled)
+
+pub cascade_unfinished : (rows : List Row) (c : ℕ) (direct : List Ending) (i : ℕ) (e : Ending) → slice_get (fall_of rows c direct) i ≡ Some e → (row : Row) × (slice_get rows e.0 ≡ Some row) × (is_unfinished row.phase ≡ true)
+cascade_unfinished rows c direct i e h = let w = ends_at (last_test rows c direct) rows i e h in (w.0, w.1, w.2)
+
+pub cascade_rising : (rows : List Row) (c : ℕ) (direct : List Ending) (i j : ℕ) (p q : Ending) → slice_get (fall_of rows c direct) i ≡ Some p → slice_get (fall_of rows c direct) j ≡ Some q → i < j → p.0 < q.0
+cascade_rising rows c direct = rising (last_test rows c direct) rows
 
 -- ---- What severs is a direct completion
 
@@ -83,40 +88,19 @@ true_false b h k = cc
 -- A row that fails in the cascade is a direct completion, or is severed by one.
 from_direct : (rows : List Row) (c : ℕ) (direct : List Ending) (r : ℕ) (row : Row) (e : Ending) (i : ℕ) → slice_get (fall_of rows c direct) i ≡ Some e → Severs rows r row e → is_severed rows (own_endings rows direct) r row ≡ true
 from_direct rows c direct r row e i h s =
-    let w = ends_at (λ r row. or_else (result_in (ms rows c direct) r) (given (guards_listed (ms rows c direct) row) ecanceled)) rows i e h in
-    let same : w.0 ≡ s.before = some_same w.0 s.before (sym w.1 ∙ s.there) in
-    let u : is_unfinished s.before.phase ≡ true = subst (λ (x : Row). is_unfinished x.phase ≡ true) same w.2 in
-    let g : or_else (result_in (ms rows c direct) e.0) (given (guards_listed (ms rows c direct) s.before) ecanceled) ≡ Some e.1 = subst (λ (x : Row). or_else (result_in (ms rows c direct) e.0) (given (guards_listed (ms rows c direct) x) ecanceled) ≡ Some e.1) same w.3 in
-    guarded u (result_in (ms rows c direct) e.0) refl g
+    let w = cascade_unfinished rows c direct i e h in
+    let u : is_unfinished s.before.phase ≡ true = let t = s.there in grind arith in
+    let a = in_cascade rows c direct e.0 s.before s.there u in
+    let b = in_ms rows c direct e.0 s.before s.there u in
+    let d = in_ss rows direct e.0 s.before s.there u in
+    let here : result_in (fall_of rows c direct) e.0 ≡ Some e.1 = result_at (fall_of rows c direct) i e (cascade_rising rows c direct) h in
+    let own : result_in (own_endings rows direct) e.0 ≡ Some e.1 → is_severed rows (own_endings rows direct) r row ≡ true = λ k. (let t = result_there (own_endings rows direct) e.0 e.1 k in severed_by rows (own_endings rows direct) r row t.0 (e.0, e.1) t.1 (record { before = s.before; there = s.there; less = s.less; unit = s.unit; soft = s.soft; bad = s.bad })) in
+    grind (arith, own, of_severed, guard_not_bad, timeout_not_bad)
   where
-    some_same : (a b : Row) → Some a ≡ Some b → a ≡ b
-    some_same a b k = cc
-
-    of_direct : (x : ℤ) → x ≡ e.1 → result_in (own_endings rows direct) e.0 ≡ Some x → is_severed rows (own_endings rows direct) r row ≡ true
-    of_direct x k d = let t = result_there (own_endings rows direct) e.0 e.1 (d ∙ ap Some k) in severed_by rows (own_endings rows direct) r row t.0 (e.0, e.1) t.1 (record { before = s.before; there = s.there; less = s.less; unit = s.unit; soft = s.soft; bad = s.bad })
-
     of_severed : is_severed rows (own_endings rows direct) e.0 s.before ≡ true → is_severed rows (own_endings rows direct) r row ≡ true
     of_severed k =
         let f = any_found (λ (x : Ending). severs_by e.0 s.before (slice_get rows x.0) x) (own_endings rows direct) k in
         severed_by rows (own_endings rows direct) r row f.0 f.1 f.2 (severs_then rows e.0 r s.before row f.1 s.less s.unit (severs_is rows e.0 s.before f.1 f.3))
-
-    severed : is_unfinished s.before.phase ≡ true → (o : Option ℤ) → result_in (own_endings rows direct) e.0 ≡ o → or_else o (given (is_severed rows (own_endings rows direct) e.0 s.before) ecanceled) ≡ Some e.1 → is_severed rows (own_endings rows direct) r row ≡ true
-    severed u None d k = of_severed (given_is (is_severed rows (own_endings rows direct) e.0 s.before) ecanceled e.1 k).0
-    severed u (Some x) d k = let y : x ≡ e.1 = cc in of_direct x y d
-
-    met : is_unfinished s.before.phase ≡ true → (o : Option ℤ) → result_in (severed_endings rows direct) e.0 ≡ o → or_else o (given (is_met (c + counted_in rows (severed_endings rows direct)) s.before) (pos 0)) ≡ Some e.1 → is_severed rows (own_endings rows direct) r row ≡ true
-    met u None d k =
-        let y = given_is (is_met (c + counted_in rows (severed_endings rows direct)) s.before) (pos 0) e.1 k in
-        let t = both (is_count_timeout s.before) (nat_le (s.before.base + s.before.entry.off) (c + counted_in rows (severed_endings rows direct))) y.0 in
-        absurd (true_false (is_bad s.before e.1) s.bad (ap (is_bad s.before) y.1 ∙ timeout_not_bad s.before t.0))
-    met u (Some x) d k = severed u (result_in (own_endings rows direct) e.0) refl (sym (in_ss rows direct e.0 s.before s.there u) ∙ d ∙ k)
-
-    guarded : is_unfinished s.before.phase ≡ true → (o : Option ℤ) → result_in (ms rows c direct) e.0 ≡ o → or_else o (given (guards_listed (ms rows c direct) s.before) ecanceled) ≡ Some e.1 → is_severed rows (own_endings rows direct) r row ≡ true
-    guarded u None d k =
-        let y = given_is (guards_listed (ms rows c direct) s.before) ecanceled e.1 k in
-        let t = both (is_guard s.before) (option_map_or (is_listed (ms rows c direct)) s.before.target false) y.0 in
-        absurd (true_false (is_bad s.before e.1) s.bad (guard_not_bad s.before e.1 t.0))
-    guarded u (Some x) d k = met u (result_in (severed_endings rows direct) e.0) refl (sym (in_ms rows c direct e.0 s.before s.there u) ∙ d ∙ k)
 
 pub severed_again : (rows : List Row) (c : ℕ) (direct : List Ending) → with_severed rows (fall_of rows c direct) ≡ fall_of rows c direct
 severed_again rows c direct =
@@ -124,14 +108,10 @@ severed_again rows c direct =
     (λ r row h u n. none r row h u (in_cascade rows c direct r row h u ∙ n))
   where
     none : (r : ℕ) (row : Row) → slice_get rows r ≡ Some row → is_unfinished row.phase ≡ true → result_in (fall_of rows c direct) r ≡ None → given (is_severed rows (fall_of rows c direct) r row) ecanceled ≡ None
-    none r row h u n = by (is_severed rows (fall_of rows c direct) r row) refl
-      where
-        by : (b : Bool) → is_severed rows (fall_of rows c direct) r row ≡ b → given b ecanceled ≡ None
-        by false e = refl
-        by true e =
-            let f = any_found (λ (x : Ending). severs_by r row (slice_get rows x.0) x) (fall_of rows c direct) e in
-            let k = from_direct rows c direct r row f.1 f.0 f.2 (severs_is rows r row f.1 f.3) in
-            absurd (true_false (is_severed rows (own_endings rows direct) r row) k (unlisted rows c direct r row h u n).severed)
+    none r row h u n =
+        let v = (unlisted rows c direct r row h u n).severed in
+        let not : is_severed rows (fall_of rows c direct) r row ≡ true → ⊥ = λ e. (let f = any_found (λ (x : Ending). severs_by r row (slice_get rows x.0) x) (fall_of rows c direct) e in let k = from_direct rows c direct r row f.1 f.0 f.2 (severs_is rows r row f.1 f.3) in cc) in
+        grind arith
 
 pub direct_again : (rows : List Row) (c : ℕ) (direct : List Ending) → joined rows (λ r row. result_in direct r) (fall_of rows c direct) ≡ fall_of rows c direct
 direct_again rows c direct =
@@ -162,33 +142,12 @@ listed_before = grind (arith, any_found, eqb-true, ends_at, result_there, any_at
 pub guards_again : (rows : List Row) (c : ℕ) (direct : List Ending) → GuardsFormed rows → with_guards rows (fall_of rows c direct) ≡ fall_of rows c direct
 guards_again rows c direct formed =
     joined_nothing (λ r row. given (guards_listed (fall_of rows c direct) row) ecanceled) (λ r row. or_else (result_in (ms rows c direct) r) (given (guards_listed (ms rows c direct) row) ecanceled)) rows
-    (λ r row h u n. none r row h u (unlisted rows c direct r row h u (in_cascade rows c direct r row h u ∙ n)).guards (is_guard row) refl row.target refl)
+    (λ r row h u n. none r row h u (unlisted rows c direct r row h u (in_cascade rows c direct r row h u ∙ n)).guards)
   where
-    none : (r : ℕ) (row : Row) → slice_get rows r ≡ Some row → is_unfinished row.phase ≡ true → guards_listed (ms rows c direct) row ≡ false → (b : Bool) → is_guard row ≡ b → (o : Option ℕ) → row.target ≡ o → given (guards_listed (fall_of rows c direct) row) ecanceled ≡ None
-    none r row h u k false g o t = ap (λ b. given (b && option_map_or (is_listed (fall_of rows c direct)) row.target false) ecanceled) g
-    none r row h u k true g None t = ap (λ (o : Option ℕ). given (is_guard row && option_map_or (is_listed (fall_of rows c direct)) o false) ecanceled) t ∙ ap (λ b. given (b && false) ecanceled) g
-    none r row h u k true g (Some x) t = by (is_listed (fall_of rows c direct) x) refl
-      where
-        as_listed : guards_listed (fall_of rows c direct) row ≡ is_listed (fall_of rows c direct) x
-        as_listed = ap (λ (o : Option ℕ). is_guard row && option_map_or (is_listed (fall_of rows c direct)) o false) t ∙ ap (λ b. b && is_listed (fall_of rows c direct) x) g
-
-        before : guards_listed (ms rows c direct) row ≡ is_listed (ms rows c direct) x
-        before = ap (λ (o : Option ℕ). is_guard row && option_map_or (is_listed (ms rows c direct)) o false) t ∙ ap (λ b. b && is_listed (ms rows c direct) x) g
-
-        by : (b : Bool) → is_listed (fall_of rows c direct) x ≡ b → given (guards_listed (fall_of rows c direct) row) ecanceled ≡ None
-        by false e = ap (λ b. given b ecanceled) (as_listed ∙ e)
-        by true e = absurd (true_false (is_listed (ms rows c direct) x) (listed_before rows c direct x (λ target there. formed r x row target h g u t there) e) (sym before ∙ k))
+    none : (r : ℕ) (row : Row) → slice_get rows r ≡ Some row → is_unfinished row.phase ≡ true → guards_listed (ms rows c direct) row ≡ false → given (guards_listed (fall_of rows c direct) row) ecanceled ≡ None
+    none r row h u k =
+        let before : (x : ℕ) → is_guard row ≡ true → row.target ≡ Some x → is_listed (fall_of rows c direct) x ≡ true → is_listed (ms rows c direct) x ≡ true = λ x g t. listed_before rows c direct x (λ target there. formed r x row target h g u t there) in
+        grind (arith, before)
 
 pub whole : (rows : List Row) (c : ℕ) (direct : List Ending) → GuardsFormed rows → IsWhole rows c direct (fall_of rows c direct)
 whole rows c direct formed = record { listed = direct_again rows c direct; severed = severed_again rows c direct; met = met_again rows c direct; guards = guards_again rows c direct formed }
-
--- ---- The rows that complete
-
-abbrev pub last_test : List Row → ℕ → List Ending → ℕ → Row → Option ℤ
-last_test rows c direct r row = or_else (result_in (ms rows c direct) r) (given (guards_listed (ms rows c direct) row) ecanceled)
-
-pub cascade_unfinished : (rows : List Row) (c : ℕ) (direct : List Ending) (i : ℕ) (e : Ending) → slice_get (fall_of rows c direct) i ≡ Some e → (row : Row) × (slice_get rows e.0 ≡ Some row) × (is_unfinished row.phase ≡ true)
-cascade_unfinished rows c direct i e h = let w = ends_at (last_test rows c direct) rows i e h in (w.0, w.1, w.2)
-
-pub cascade_rising : (rows : List Row) (c : ℕ) (direct : List Ending) (i j : ℕ) (p q : Ending) → slice_get (fall_of rows c direct) i ≡ Some p → slice_get (fall_of rows c direct) j ≡ Some q → i < j → p.0 < q.0
-cascade_rising rows c direct = rising (last_test rows c direct) rows

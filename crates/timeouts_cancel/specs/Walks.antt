@@ -41,24 +41,28 @@ pub record Walked (rows : List Row) (direct : List Ending) (k i : ℕ) (es : Lis
   pub clear : (r : ℕ) (row : Row) (j : ℕ) (e : Ending) → k ≤ r → slice_get rows r ≡ Some row
       → slice_get direct j ≡ Some e → j < i → Severs rows r row e → ⊥
 
+-- A direct completion severs chain `unit`, and no earlier one severs a row of it or a later row.
+pub record Cause (rows : List Row) (direct : List Ending) (unit : ℕ) : Type 0 where
+  pub at : ℕ
+  pub cause : Ending
+  pub there : slice_get direct at ≡ Some cause
+  pub head : Row
+  pub is_head : slice_get rows cause.0 ≡ Some head
+  pub soft : is_soft_linked head ≡ true
+  pub bad : is_bad head cause.1 ≡ true
+  pub unit_is : head.unit ≡ unit
+  pub clear : (r : ℕ) (row : Row) (j : ℕ) (e : Ending) → cause.0 ≤ r → slice_get rows r ≡ Some row
+      → slice_get direct j ≡ Some e → j < at → Severs rows r row e → ⊥
+
 -- The rows below k were processed. The last of them belongs to chain `unit`, which a direct
 -- completion severs.
 pub record Sweeping (rows : List Row) (direct : List Ending) (k i : ℕ) (es : List Ending) (unit : ℕ) : Type 0 where
   pub listed : es ≡ upto (result_by rows direct) rows k
   pub below : (j : ℕ) (e : Ending) → slice_get direct j ≡ Some e → j < i → e.0 < k
   pub above : (j : ℕ) (e : Ending) → slice_get direct j ≡ Some e → i ≤ j → k ≤ e.0
-  pub at : ℕ
-  pub cause : Ending
-  pub there : slice_get direct at ≡ Some cause
-  pub passed : at < i
-  pub head : Row
-  pub is_head : slice_get rows cause.0 ≡ Some head
-  pub soft : is_soft_linked head ≡ true
-  pub bad : is_bad head cause.1 ≡ true
-  pub unit_is : head.unit ≡ unit
-  pub run : (q : ℕ) (y : Row) → cause.0 ≤ q → q < k → slice_get rows q ≡ Some y → y.unit ≡ unit
-  pub clear : (r : ℕ) (row : Row) (j : ℕ) (e : Ending) → cause.0 ≤ r → slice_get rows r ≡ Some row
-      → slice_get direct j ≡ Some e → j < at → Severs rows r row e → ⊥
+  pub from : Cause rows direct unit
+  pub passed : from.at < i
+  pub run : (q : ℕ) (y : Row) → from.cause.0 ≤ q → q < k → slice_get rows q ≡ Some y → y.unit ≡ unit
 
 -- The same, after at least the first `at` direct completions.
 pub record SweepsOn (rows : List Row) (direct : List Ending) (k i : ℕ) (es : List Ending) (unit at : ℕ) : Type 0 where
