@@ -1,25 +1,6 @@
 -- Bounds on how many bytes have been written to a pipe over the whole run.
-use Rattle.std.proofs.Common.{◌≡◌, ℕ, ℤ, pos, negsuc, zero, suc, Bool, refl, sym, ◌∙◌, ap, List, [], ◌∷◌, length, drop, length-take, ◌+◌, ◌≤◌, arith, rules}
-use Rattle.std.specs.Prelude.{Option, Some, None, slice_get}
-use Rattle.std.specs.Option.{option_and_then}
-use Rattle.std.specs.Option.{option_map_or}
-use Rattle.entries.specs.declared.entry.Sqe.{Sqe}
-use Rattle.entries.specs.declared.row.Row.{Row}
+use Rattle.opcodes.proofs.Common.{◌≡◌, ℕ, ℤ, pos, negsuc, zero, suc, Bool, refl, sym, ◌∙◌, ap, List, [], ◌∷◌, length, drop, length-take, ◌+◌, ◌≤◌, arith, rules, Option, Some, None, slice_get, option_and_then, option_map_or, Sqe, Row, Body, DescriptorState, Stock, File, Pipe, EventFd, part, synced, written, PipeState, put_in, taken_out, WorldState, PutsWithin, descriptor_of, number_at, on_counter, on_file, on_pipe, pipe_in, stock_of, world_added, world_cleared, world_put, world_synced, world_taken, Choice, Op, Fsync, Read, Write, Res, op_of, outcome_of, held_descriptor, moved_on, bytes_read, bytes_written, done_by, world_after}
 use Rattle.places.specs.Lists.{updated}
-use Rattle.model_files.specs.declared.body.Body.{Body}
-use Rattle.model_files.specs.declared.descriptor.DescriptorState.{DescriptorState}
-use Rattle.model_files.specs.declared.stock.Stock.{Stock}
-use Rattle.model_files.specs.declared.stock.Stock.TheVariants.{File, Pipe, EventFd}
-use Rattle.model_files.specs.Files.{part, synced, written}
-use Rattle.model_files.specs.Pipes.{PipeState, put_in, taken_out}
-use Rattle.model_files.specs.Worlds.{WorldState, PutsWithin, descriptor_of, number_at, on_counter, on_file, on_pipe, pipe_in, stock_of, world_added, world_cleared, world_put, world_synced, world_taken}
-use Rattle.entries.specs.declared.choice.Choice.{Choice}
-use Rattle.opcodes.specs.declared.op.Op.{Op}
-use Rattle.opcodes.specs.declared.op.Op.TheVariants.{Fsync, Read, Write}
-use Rattle.opcodes.specs.declared.ending.Outcome.TheVariants.{Res}
-use Rattle.opcodes.specs.Check.{op_of}
-use Rattle.opcodes.specs.Outcomes.{outcome_of, held_descriptor}
-use Rattle.opcodes.specs.Effects.{moved_on, bytes_read, bytes_written, done_by, world_after}
 use Rattle.opcodes.proofs.Transferring.{row_written}
 
 -- The bound for a list of objects.

@@ -1,3 +1,4 @@
+mod Common
 pub mod Transferring
 pub mod Nothing
 pub mod Staying

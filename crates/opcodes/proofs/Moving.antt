@@ -1,9 +1,6 @@
 -- Setting a file position can't fail if there is room for its note.
-use Rattle.std.proofs.Common.{◌≡◌, ℕ, ◌-◌, ◌<◌, arith}
-use Rattle.std.specs.Prelude.{Some, Result, IsOk, OnErr}
+use Rattle.opcodes.proofs.Common.{◌≡◌, ℕ, ◌-◌, ◌<◌, arith, Some, Result, IsOk, OnErr, DescriptorState, WorldState, WorldFormed, descriptor_of}
 use Rattle.std.proofs.lemmas.Option.{slice_get_within}
-use Rattle.model_files.specs.declared.descriptor.DescriptorState.{DescriptorState}
-use Rattle.model_files.specs.Worlds.{WorldState, WorldFormed, descriptor_of}
 use Rattle.model_files.proofs.Describing.{number_from_three}
 
 -- Descriptor numbers are at most 66.

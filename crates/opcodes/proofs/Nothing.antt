@@ -1,16 +1,9 @@
 -- A transfer of 0 bytes changes nothing.
 use Rattle.std.proofs.Common.{◌≡◌, ℕ, zero, suc, List, [], ◌∷◌, Some, refl, ap, ◌∙◌, take, drop, arith}
-use Rattle.std.specs.Prelude.{slice_get}
-use Rattle.entries.specs.declared.entry.Sqe.{Sqe}
+use Rattle.opcodes.proofs.Common.{slice_get, Sqe, Body, DescriptorState, written, WorldState, WorldFormed, descriptor_of, on_file, world_put, world_read, world_taken, world_written, moved_on, bytes_read, bytes_written, offset_of, position_of}
 use Rattle.places.specs.Lists.{updated}
-use Rattle.model_files.specs.declared.body.Body.{Body}
 use Rattle.model_files.specs.declared.body.Body.TheVariants.{File, Pipe, EventFd}
-use Rattle.model_files.specs.declared.descriptor.DescriptorState.{DescriptorState}
-use Rattle.model_files.specs.Files.{written}
-use Rattle.model_files.specs.Worlds.{WorldState, WorldFormed, descriptor_of, on_file, world_put, world_read, world_taken, world_written}
 use Rattle.model_files.proofs.Overwriting.{overwritten_none, written_none}
-use Rattle.opcodes.specs.Effects.{moved_on, bytes_read, bytes_written}
-use Rattle.opcodes.specs.Outcomes.{offset_of, position_of}
 use Rattle.std.proofs.lemmas.Grind.{common_steps}
 
 updated_same : {X : Type 0} (f : X → X) (xs : List X) (i : ℕ) → ((x : X) → slice_get xs i ≡ Some x → f x ≡ x) → updated f xs i ≡ xs

@@ -1,25 +1,8 @@
 -- Completing a request preserves the invariant of the world.
-use Rattle.std.proofs.Common.{◌≡◌, ℕ, ℤ, pos, negsuc, zero, suc, Bool, true, false, cond, refl, sym, subst, ◌∙◌, ap, ◌+◌, ◌≤◌, arith}
+use Rattle.opcodes.proofs.Common.{◌≡◌, ℕ, ℤ, pos, negsuc, zero, suc, Bool, true, false, cond, refl, sym, subst, ◌∙◌, ap, ◌+◌, ◌≤◌, arith, option_and_then, option_map_or, Sqe, Row, DescriptorState, Stock, File, Pipe, EventFd, GivesOut, TakesIn, WorldState, WorldFormed, OneSetup, PutsWithin, descriptor_of, number_at, pipe_of, stock_of, world_at, world_put, world_read, world_taken, world_written, setup_self, setup_then, setup_read, setup_written, setup_synced, setup_taken, setup_put, setup_added, setup_cleared, Choice, Op, Fsync, Read, Write, Res, op_of, outcome_of, held_descriptor, is_at_position, offset_of, position_of, moved_on, bytes_read, bytes_written, done_by, world_after}
 use Rattle.std.specs.Prelude.{Option, Some, None, IsSomeAnd, ◌^◌}
-use Rattle.std.specs.Option.{option_and_then}
-use Rattle.std.specs.Option.{option_map_or}
-use Rattle.entries.specs.declared.entry.Sqe.{Sqe}
-use Rattle.entries.specs.declared.row.Row.{Row}
-use Rattle.model_files.specs.declared.descriptor.DescriptorState.{DescriptorState}
-use Rattle.model_files.specs.declared.stock.Stock.{Stock}
-use Rattle.model_files.specs.declared.stock.Stock.TheVariants.{File, Pipe, EventFd}
-use Rattle.model_files.specs.Pipes.{GivesOut, TakesIn}
-use Rattle.model_files.specs.Worlds.{WorldState, WorldFormed, OneSetup, PutsWithin, descriptor_of, number_at, pipe_of, stock_of, world_at, world_put, world_read, world_taken, world_written}
 use Rattle.model_files.proofs.Forming.{world_at_formed, world_read_formed, world_written_formed, world_synced_formed, world_taken_formed, world_put_formed, world_added_formed, world_cleared_formed}
-use Rattle.model_files.proofs.Fixing.{setup_self, setup_then, setup_read, setup_written, setup_synced, setup_taken, setup_put, setup_added, setup_cleared}
-use Rattle.entries.specs.declared.choice.Choice.{Choice}
-use Rattle.opcodes.specs.declared.op.Op.{Op}
-use Rattle.opcodes.specs.declared.op.Op.TheVariants.{Fsync, Read, Write}
-use Rattle.opcodes.specs.declared.ending.Outcome.TheVariants.{Res}
-use Rattle.opcodes.specs.Check.{op_of}
-use Rattle.opcodes.specs.Outcomes.{outcome_of, held_descriptor, is_at_position, offset_of, position_of}
 use Rattle.opcodes.proofs.Nothing.{bytes_read_nothing, bytes_written_nothing}
-use Rattle.opcodes.specs.Effects.{moved_on, bytes_read, bytes_written, done_by, world_after}
 use Rattle.opcodes.proofs.Transferring.{Moves, row_read, row_written, setup_moved, gives_out, takes_in, counts_to}
 
 -- The next world satisfies the invariant, and has the same fixed properties.

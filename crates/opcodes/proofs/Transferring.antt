@@ -1,26 +1,9 @@
 -- Bounds that a successful transfer satisfies.
-use Rattle.std.proofs.Common.{◌≡◌, ℕ, ℤ, pos, negsuc, Bool, cond, refl, sym, ◌∙◌, ap, subst, ◌+◌, ◌-◌, ◌<◌, ◌≤◌, ◌^◌, arith}
+use Rattle.opcodes.proofs.Common.{◌≡◌, ℕ, ℤ, pos, negsuc, Bool, cond, refl, sym, ◌∙◌, ap, subst, ◌+◌, ◌-◌, ◌<◌, ◌≤◌, ◌^◌, arith, option_and_then, Sqe, Row, Body, DescriptorState, Stock, File, Pipe, EventFd, PipeFormed, GivesOut, TakesIn, filled, WorldState, WorldFormed, BodyFormed, StockFits, OneSetup, PutsWithin, descriptor_of, file_of, pipe_in, pipe_of, counter_of, stock_in, stock_of, number_at, world_at, world_put, world_taken, FileFormed, setup_at, setup_taken, setup_put, Choice, Op, Read, Write, Res, op_of, fixed, passes_memory, offset_of, read_outcome, write_outcome, outcome_on, outcome_of, held_descriptor, position_of}
 use Rattle.std.specs.Prelude.{Option, Some, None, IsSome, IsSomeAnd, is_some, option_map, slice_get, length, Result, OnOk, OnErr}
-use Rattle.std.specs.Option.{option_and_then}
-use Rattle.entries.specs.declared.entry.Sqe.{Sqe}
-use Rattle.entries.specs.declared.row.Row.{Row}
-use Rattle.model_files.specs.declared.body.Body.{Body}
 use Rattle.model_files.specs.declared.body.Body.TheVariants.{File as FileBody, Pipe as PipeBody, EventFd as EventBody}
-use Rattle.model_files.specs.declared.descriptor.DescriptorState.{DescriptorState}
-use Rattle.model_files.specs.declared.stock.Stock.{Stock}
-use Rattle.model_files.specs.declared.stock.Stock.TheVariants.{File, Pipe, EventFd}
-use Rattle.model_files.specs.Pipes.{PipeFormed, GivesOut, TakesIn, filled}
-use Rattle.model_files.specs.Worlds.{WorldState, WorldFormed, BodyFormed, StockFits, OneSetup, PutsWithin, descriptor_of, file_of, pipe_in, pipe_of, counter_of, stock_in, stock_of, number_at, world_at, world_put, world_taken}
 use Rattle.model_files.proofs.Describing.{number_from_three}
-use Rattle.model_files.specs.Files.{FileFormed}
 use Rattle.model_files.proofs.Forming.{file_formed}
-use Rattle.model_files.proofs.Fixing.{setup_at, setup_taken, setup_put}
-use Rattle.entries.specs.declared.choice.Choice.{Choice}
-use Rattle.opcodes.specs.declared.op.Op.{Op}
-use Rattle.opcodes.specs.declared.op.Op.TheVariants.{Read, Write}
-use Rattle.opcodes.specs.declared.ending.Outcome.TheVariants.{Res}
-use Rattle.opcodes.specs.Check.{op_of}
-use Rattle.opcodes.specs.Outcomes.{fixed, passes_memory, offset_of, read_outcome, write_outcome, outcome_on, outcome_of, held_descriptor, position_of}
 
 -- The fixed properties are the same, whether the transfer succeeds or an allocation fails.
 pub setup_either : {T E : Type 0} (a b d : WorldState) (r : Result T E) → OnOk r (b ≡ d) → OnErr r (b ≡ a) → OneSetup a d → OneSetup a b

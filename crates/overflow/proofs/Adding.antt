@@ -1,17 +1,6 @@
 -- Facts about adding completions to the backlog: their places are first recorded as absent.
-use Rattle.std.proofs.Common.{◌≡◌, ℕ, refl, sym, ◌∙◌, ap, List, [], ◌∷◌, ◌++◌, length, take, append_assoc, length-append, ◌+◌, ◌≤◌, ◌<◌, ◌⊎◌, inl, inr, get_or, arith}
-use Rattle.std.specs.Prelude.{Some, None, option_map, slice_get}
-use Rattle.std.proofs.lemmas.Grind.{common_steps}
-use Rattle.std.proofs.lemmas.Option.{gets, slice_get_past, slice_get_cases}
-use Rattle.std.proofs.lemmas.List.{length-take-le}
-use Rattle.entries.specs.declared.completion.Cqe.{Cqe}
-use Rattle.places.specs.declared.place.Place.{Place}
-use Rattle.places.specs.declared.place.Place.TheVariants.{Backlog}
-use Rattle.places.specs.declared.value.Value.TheVariants.{Completed}
-use Rattle.places.specs.View.{named, Keeps, Noted}
+use Rattle.overflow.proofs.Common.{◌≡◌, ℕ, refl, sym, ◌∙◌, ap, List, [], ◌∷◌, ◌++◌, length, take, append_assoc, length-append, ◌+◌, ◌≤◌, ◌<◌, ◌⊎◌, inl, inr, get_or, arith, Some, None, option_map, slice_get, common_steps, gets, slice_get_past, slice_get_cases, length-take-le, Cqe, Place, Backlog, Completed, named, Keeps, Noted, keeps_then, keeps_noted, noted_keeps, BacklogState, backlog_owns, backlog_seen, backlog_with}
 use Rattle.places.specs.Notes.{Notes}
-use Rattle.places.proofs.Keeping.{keeps_then, keeps_noted, noted_keeps}
-use Rattle.overflow.specs.Backlogs.{BacklogState, backlog_owns, backlog_seen, backlog_with}
 use Rattle.overflow.proofs.Seen.{seen_more}
 
 -- The invariant of the loop: the first i places after the end are recorded as absent. The same

@@ -1,15 +1,8 @@
 -- Facts about posting and flushing, from the definitions only.
-use Rattle.std.proofs.Common.{◌≡◌, ℕ, true, refl, sym, List, [], ◌++◌, length, take, drop, append_assoc, length-append, length-drop, drop-drop, ◌+◌, ◌≤◌, min, arith}
-use Rattle.std.specs.Prelude.{not, ◌==◌}
-use Rattle.std.proofs.lemmas.List.{append-nil, take-append-drop, drop-append-le, length-take-le}
-use Rattle.entries.specs.declared.completion.Cqe.{Cqe}
-use Rattle.ring_words.specs.declared.flag.RingFlag.TheVariants.{CqOverflow}
-use Rattle.ring_words.specs.Rings.{ComWords, waiting, com_list, has_flag}
+use Rattle.overflow.proofs.Common.{◌≡◌, ℕ, true, refl, sym, List, [], ◌++◌, length, take, drop, append_assoc, length-append, length-drop, drop-drop, ◌+◌, ◌≤◌, min, arith, not, ◌==◌, append-nil, take-append-drop, drop-append-le, length-take-le, Cqe, CqOverflow, ComWords, waiting, com_list, has_flag, BacklogState, kept, is_clear, free_slots, Delivery, DeliveryFormed, fits, backlog_with, backlog_flushed, all_posted, flushed, common_steps}
 use Rattle.ring_words.proofs.Laws.{com_length}
 use Rattle.ring_words.proofs.Flags.{flag_set}
-use Rattle.overflow.specs.Backlogs.{BacklogState, kept, is_clear, free_slots, Delivery, DeliveryFormed, fits, backlog_with, backlog_flushed, all_posted, flushed}
 use Rattle.overflow.proofs.Posting.{posted_slots, posted_well, posted_waits, posted_list}
-use Rattle.std.proofs.lemmas.Grind.{common_steps}
 
 none_left : (xs : List Cqe) → (length xs == 0) ≡ true → xs ≡ []
 none_left = grind (arith, common_steps)

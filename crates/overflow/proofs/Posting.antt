@@ -1,18 +1,8 @@
 -- Facts about posting completions into the ring in order.
-use Rattle.std.proofs.Common.{◌≡◌, ℕ, refl, sym, ◌∙◌, ap, List, [], ◌∷◌, ◌++◌, length, take, append_assoc, length-set, ◌+◌, ◌%◌, ◌≤◌, ◌<◌, arith}
-use Rattle.std.specs.Prelude.{None, Some, slice_get}
-use Rattle.std.proofs.lemmas.Grind.{common_steps}
-use Rattle.std.proofs.lemmas.Option.{gets}
-use Rattle.std.proofs.lemmas.List.{append-nil, length-take-le}
-use Rattle.entries.specs.declared.completion.Cqe.{Cqe}
-use Rattle.places.specs.declared.place.Place.{Place}
-use Rattle.places.specs.View.{named, Keeps}
+use Rattle.overflow.proofs.Common.{◌≡◌, ℕ, refl, sym, ◌∙◌, ap, List, [], ◌∷◌, ◌++◌, length, take, append_assoc, length-set, ◌+◌, ◌%◌, ◌≤◌, ◌<◌, arith, None, Some, slice_get, common_steps, gets, append-nil, length-take-le, Cqe, Place, named, Keeps, keeps_then, ComWords, ComFormed, waiting, com_list, com_owns, com_seen, posted_one, posted_in_order}
 use Rattle.places.specs.Notes.{Notes}
-use Rattle.places.proofs.Keeping.{keeps_then}
-use Rattle.ring_words.specs.Rings.{ComWords, ComFormed, waiting, com_list, com_owns, com_seen}
 use Rattle.ring_words.proofs.Laws.{com_posted, formed_posted}
 use Rattle.ring_words.proofs.Order.{waiting_more}
-use Rattle.overflow.specs.Backlogs.{posted_one, posted_in_order}
 
 -- Posting one more completion.
 pub posted_more : (w : ComWords) (cs : List Cqe) (c : Cqe) → posted_in_order w (cs ++ c ∷ []) ≡ posted_one (posted_in_order w cs) c

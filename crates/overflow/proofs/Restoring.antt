@@ -1,13 +1,8 @@
 -- Assigning the values of one backlog to another of the same length.
-use Rattle.std.proofs.Common.{◌≡◌, length, arith}
-use Rattle.std.specs.Prelude.{Some, None}
-use Rattle.places.specs.declared.place.Place.{Place}
-use Rattle.places.specs.declared.place.Place.TheVariants.{Backlog, BacklogFront}
+use Rattle.overflow.proofs.Common.{◌≡◌, length, arith, Some, None, Place, Backlog, BacklogFront, Completed, BacklogState, BacklogFormed, backlog_seen, backlog_can_put}
 use Rattle.places.specs.declared.value.Value.{Value}
-use Rattle.places.specs.declared.value.Value.TheVariants.{Completed}
 use Rattle.places.proofs.ListLemmas.{same_list}
 use Rattle.ring_words.proofs.Restoring.{none_here, some_here, same_through}
-use Rattle.overflow.specs.Backlogs.{BacklogState, BacklogFormed, backlog_seen, backlog_can_put}
 
 -- Each value can be assigned.
 pub backlog_seen_can_put : (s m : BacklogState) → BacklogFormed s → length s.items ≡ length m.items → (p : Place) (v : Value) → backlog_seen s p ≡ Some v → backlog_can_put m p (Some v)

@@ -1,14 +1,7 @@
 -- The view of a changed backlog.
-use Rattle.std.proofs.Common.{◌≡◌, ℕ, [], ◌∷◌, ◌++◌, take, length, ◌<◌, ◌+◌, arith}
-use Rattle.std.specs.Prelude.{Some, None, slice_set}
-use Rattle.entries.specs.declared.completion.Cqe.{Cqe}
-use Rattle.places.specs.declared.place.Place.{Place}
-use Rattle.places.specs.declared.place.Place.TheVariants.{Backlog, BacklogFront}
-use Rattle.places.specs.declared.value.Value.TheVariants.{Number, Completed}
+use Rattle.overflow.proofs.Common.{◌≡◌, ℕ, [], ◌∷◌, ◌++◌, take, length, ◌<◌, ◌+◌, arith, Some, None, slice_set, Cqe, Place, Backlog, BacklogFront, Number, Completed, put_at, BacklogState, backlog_seen}
 use Rattle.places.specs.Places.{same_place}
-use Rattle.places.specs.View.{put_at}
 use Rattle.places.proofs.ListLemmas.{slice_get-set, slice_get-push, slice_get-take}
-use Rattle.overflow.specs.Backlogs.{BacklogState, backlog_seen}
 
 -- After the front is set.
 pub seen_front : (b : BacklogState) (n : ℕ) (q : Place) → backlog_seen (record b { front = n }) q ≡ put_at (backlog_seen b) BacklogFront (Some (Number n)) q

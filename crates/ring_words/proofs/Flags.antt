@@ -1,13 +1,9 @@
 -- Facts about the flags word.
-use Rattle.std.proofs.Common.{◌≡◌, ℕ, zero, suc, Bool, true, false, refl, sym, ◌∙◌, ap, ◌*◌, ◌%◌, ◌-◌, ◌<◌, ◌^◌, ◌⊎◌, inl, inr, arith}
-use Rattle.std.specs.Prelude.{not, ◌==◌}
-use Rattle.std.proofs.lemmas.Nat.{or_lt, and_le_l, and_or_apart, and_assoc, and_comm, and_mask}
+use Rattle.ring_words.proofs.Common.{◌≡◌, ℕ, zero, suc, Bool, true, false, refl, sym, ◌∙◌, ap, ◌*◌, ◌%◌, ◌-◌, ◌<◌, ◌^◌, ◌⊎◌, inl, inr, arith, not, ◌==◌, or_lt, and_le_l, and_or_apart, and_assoc, and_comm, and_mask, bit_at, bit_of, has_flag, with_flag}
 use Rattle.std.proofs.lemmas.Nat.Bits.{bit_at-lt, and_pow}
-use Rattle.std.specs.Int.{bit_at}
 use Rattle.std.specs.Int.Bits.{bit_and, bit_or, or_add_and}
 use Rattle.ring_words.specs.declared.flag.RingFlag.{RingFlag}
 use Rattle.ring_words.specs.declared.flag.RingFlag.TheVariants.{NeedWakeup, CqOverflow}
-use Rattle.ring_words.specs.Rings.{bit_of, has_flag, with_flag}
 use Rattle.std.proofs.lemmas.Grind.{common_steps}
 
 -- The flags word still fits into 32 bits.

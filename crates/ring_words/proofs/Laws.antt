@@ -1,9 +1,7 @@
 -- Facts about the lists of pending elements and the invariants of the rings.
-use Rattle.std.proofs.Common.{◌≡◌, ℕ, zero, suc, Bool, sym, ◌∙◌, List, [], ◌∷◌, ◌++◌, length, ◌+◌, ◌%◌, ◌<◌, ◌≤◌, ◌^◌, arith, length-set}
-use Rattle.std.specs.Prelude.{Some, slice_get, slice_set}
+use Rattle.ring_words.proofs.Common.{◌≡◌, ℕ, zero, suc, Bool, sym, ◌∙◌, List, [], ◌∷◌, ◌++◌, length, ◌+◌, ◌%◌, ◌<◌, ◌≤◌, ◌^◌, arith, length-set, Some, slice_get, slice_set, mod_below, slice_get-set}
 use Rattle.std.proofs.Math.ListN.{replicate}
 use Rattle.std.proofs.lemmas.List.{length-replicate}
-use Rattle.std.proofs.lemmas.Nat.{mod_below}
 use Rattle.entries.specs.declared.completion.Cqe.{Cqe}
 use Rattle.entries.specs.declared.entry.Sqe.{Sqe}
 use Rattle.ring_words.specs.declared.flag.RingFlag.{RingFlag}
@@ -11,7 +9,6 @@ use Rattle.ring_words.specs.Rings.{SubWords, ComWords, SubFormed, ComFormed, wai
 use Rattle.ring_words.proofs.Order.{list_back, items_length}
 use Rattle.ring_words.proofs.Sizes.{size_divides, rounded_size, size_some}
 use Rattle.ring_words.proofs.Flags.{with_flag_fits}
-use Rattle.places.proofs.ListLemmas.{slice_get-set}
 
 -- The list is as long as head and tail say.
 pub sub_length : (w : SubWords) → SubFormed w → length (sub_list w) ≡ waiting w.head w.tail

@@ -1,3 +1,4 @@
+mod Common
 pub mod Order
 pub mod Seen
 pub mod Sizes

@@ -1,13 +1,8 @@
 -- Assigning the values of one ring to another of the same size.
-use Rattle.std.proofs.Common.{◌≡◌, ℕ, List, length, ◌<◌, arith}
-use Rattle.std.specs.Prelude.{Option, Some, None, option_map, slice_get}
-use Rattle.std.proofs.lemmas.Option.{slice_get_within, slice_get_past}
+use Rattle.ring_words.proofs.Common.{◌≡◌, ℕ, List, length, ◌<◌, arith, Option, Some, None, option_map, slice_get, slice_get_within, slice_get_past, Number, Entry, Completed, same_list, slice_get_none, SubWords, ComWords, SubFormed, ComFormed, sub_seen, com_seen, sub_can_put, com_can_put}
 use Rattle.places.specs.declared.place.Place.{Place}
 use Rattle.places.specs.declared.place.Place.TheVariants.{SubmissionHead, SubmissionTail, SubmissionFlags, SubmissionDropped, CompletionHead, CompletionTail, Array, Slot, Completion}
 use Rattle.places.specs.declared.value.Value.{Value}
-use Rattle.places.specs.declared.value.Value.TheVariants.{Number, Entry, Completed}
-use Rattle.places.proofs.ListLemmas.{same_list, slice_get_none}
-use Rattle.ring_words.specs.Rings.{SubWords, ComWords, SubFormed, ComFormed, sub_seen, com_seen, sub_can_put, com_can_put}
 
 -- Lists of the same length have elements at the same indexes.
 pub none_here : {X V : Type 0} (f : X → V) (xs ys : List X) (i : ℕ) → length xs ≡ length ys → option_map f (slice_get xs i) ≡ None → option_map f (slice_get ys i) ≡ None

@@ -1,15 +1,11 @@
 -- The view of a changed ring.
-use Rattle.std.proofs.Common.{◌≡◌, ℕ, length, ◌<◌, arith}
-use Rattle.std.specs.Prelude.{Some, slice_set}
+use Rattle.ring_words.proofs.Common.{◌≡◌, ℕ, length, ◌<◌, arith, Some, slice_set, Number, Entry, Completed, field_set, SubWords, ComWords, sub_seen, com_seen}
 use Rattle.entries.specs.declared.completion.Cqe.{Cqe}
 use Rattle.entries.specs.declared.entry.Sqe.{Sqe}
 use Rattle.places.specs.declared.place.Place.{Place}
 use Rattle.places.specs.declared.place.Place.TheVariants.{SubmissionHead, SubmissionTail, SubmissionFlags, SubmissionDropped, CompletionHead, CompletionTail, Array, Slot, Completion}
-use Rattle.places.specs.declared.value.Value.TheVariants.{Number, Entry, Completed}
 use Rattle.places.specs.Places.{same_place}
 use Rattle.places.specs.View.{put_at}
-use Rattle.places.proofs.ListLemmas.{field_set}
-use Rattle.ring_words.specs.Rings.{SubWords, ComWords, sub_seen, com_seen}
 
 pub com_seen_head : (w : ComWords) (n : ℕ) (q : Place) → com_seen (record w { head = n }) q ≡ put_at (com_seen w) CompletionHead (Some (Number n)) q
 unfolding same_place

@@ -1,14 +1,5 @@
 -- Applying the rules of the cascade again adds nothing.
-use Rattle.std.proofs.Common.{◌≡◌, ℕ, ℤ, zero, suc, Bool, true, false, cond, refl, ◌∙◌, ap, List, [], ◌∷◌, arith}
-use Rattle.std.specs.Prelude.{Option, Some, None, slice_get, ◌==◌, ◌||◌}
-use Rattle.std.specs.Option.{option_and_then}
-use Rattle.std.specs.List.{list_any}
-use Rattle.std.proofs.lemmas.Bool.{eqb-true}
-use Rattle.entries.specs.declared.row.Row.{Row}
-use Rattle.links_drains.specs.Phases.{is_unfinished}
-use Rattle.links_drains.specs.Endings.{Ending, result_in, endings, or_else, given}
-use Rattle.timeouts_cancel.specs.Cascades.{joined}
-use Rattle.links_drains.proofs.Listing.{result_of, listed_at, alike}
+use Rattle.timeouts_cancel.proofs.Common.{◌≡◌, ℕ, ℤ, zero, suc, Bool, true, false, cond, refl, ◌∙◌, ap, List, [], ◌∷◌, arith, Option, Some, None, slice_get, ◌==◌, ◌||◌, option_and_then, list_any, eqb-true, Row, is_unfinished, Ending, result_in, endings, or_else, given, joined, result_of, listed_at, alike}
 
 -- ---- Some item passes a test
 

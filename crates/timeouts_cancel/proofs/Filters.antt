@@ -1,11 +1,6 @@
 -- The rules of the cascade, one after the other.
-use Rattle.std.proofs.Common.{◌≡◌, ℕ, sym, ◌∙◌, ap, subst, List, length, ◌+◌, ◌≤◌, arith}
-use Rattle.entries.specs.declared.row.Row.{Row}
-use Rattle.links_drains.specs.Endings.{Ending, result_in, Direct}
-use Rattle.timeouts_cancel.specs.Cascades.{joined, with_met, counted_in, fall_of}
-use Rattle.timeouts_cancel.specs.Guarding.{guarding}
+use Rattle.timeouts_cancel.proofs.Common.{◌≡◌, ℕ, sym, ◌∙◌, ap, subst, List, length, ◌+◌, ◌≤◌, arith, Row, Ending, result_in, Direct, joined, with_met, counted_in, fall_of, guarding, severed_endings, result_by}
 use Rattle.timeouts_cancel.specs.Timers.{met_rows}
-use Rattle.timeouts_cancel.specs.Walks.{severed_endings, result_by}
 use Rattle.timeouts_cancel.proofs.Listed.{direct_endings, few_endings, joined_listed}
 use Rattle.timeouts_cancel.proofs.Meeting.{met_result}
 use Rattle.timeouts_cancel.proofs.Tallying.{few_counted}

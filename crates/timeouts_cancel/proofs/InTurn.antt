@@ -1,12 +1,8 @@
 -- Two searches for a match in turn: upwards through the issued requests, and downwards through those
 -- with a hash.
-use Rattle.std.proofs.Common.{◌≡◌, ℕ, zero, suc, Bool, true, false, cond, refl, sym, ◌∙◌, ap, subst, List, [], ◌∷◌, length, ◌+◌, ◌-◌, ◌<◌, ◌≤◌, arith}
-use Rattle.std.specs.Prelude.{Option, Some, None, IfSome, slice_get}
-use Rattle.std.proofs.lemmas.Option.{slice_get_within}
-use Rattle.entries.specs.declared.row.Row.{Row}
+use Rattle.timeouts_cancel.proofs.Common.{◌≡◌, ℕ, zero, suc, Bool, true, false, cond, refl, sym, ◌∙◌, ap, subst, List, [], ◌∷◌, length, ◌+◌, ◌-◌, ◌<◌, ◌≤◌, arith, Option, Some, None, IfSome, slice_get, slice_get_within, Row, is_match, user_of, FoundPast, IsMatch, NoMatch}
 use Rattle.links_drains.specs.Finders.{NoUser}
 use Rattle.timeouts_cancel.specs.declared.matching.Key.{Key}
-use Rattle.timeouts_cancel.specs.Matches.{is_match, user_of, FoundPast, IsMatch, NoMatch}
 
 -- ---- Requests that can't match
 

@@ -1,11 +1,5 @@
 -- Merging two lists of completions, one by one.
-use Rattle.std.proofs.Common.{◌≡◌, ℕ, ℤ, sym, ◌∙◌, List, [], ◌∷◌, ◌++◌, length, ◌+◌, ◌-◌, ◌<◌, ◌≤◌, arith}
-use Rattle.std.specs.Prelude.{Option, Some, None, slice_get}
-use Rattle.entries.specs.declared.row.Row.{Row}
-use Rattle.links_drains.specs.Endings.{Ending, result_in, or_else, Direct}
-use Rattle.links_drains.proofs.Listing.{result_of}
-use Rattle.timeouts_cancel.specs.Cascades.{joined}
-use Rattle.timeouts_cancel.specs.Merges.{Splits, IsLeast, Merged}
+use Rattle.timeouts_cancel.proofs.Common.{◌≡◌, ℕ, ℤ, sym, ◌∙◌, List, [], ◌∷◌, ◌++◌, length, ◌+◌, ◌<◌, ◌≤◌, arith, Option, Some, None, slice_get, Row, Ending, result_in, or_else, Direct, result_of, joined, Splits, IsLeast, Merged}
 use Rattle.timeouts_cancel.proofs.Listed.{splits_to, splits_out, splits_past, upto_all}
 use Rattle.timeouts_cancel.proofs.Walking.{result_at, upto_next}
 

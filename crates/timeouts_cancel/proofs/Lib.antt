@@ -1,3 +1,4 @@
+mod Common
 pub mod InTurn
 pub mod Again
 pub mod Filters

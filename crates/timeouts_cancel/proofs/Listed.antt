@@ -1,16 +1,5 @@
 -- Lists of completions: their length, and where a row number splits them.
-use Rattle.std.proofs.Common.{◌≡◌, ℕ, ℤ, Bool, true, cond, refl, sym, ◌∙◌, ap, List, [], ◌∷◌, length, ◌+◌, ◌<◌, ◌≤◌, arith}
-use Rattle.std.specs.Prelude.{Option, Some, None, slice_get, ◌==◌}
-use Rattle.std.proofs.lemmas.List.{take_all}
-use Rattle.std.proofs.lemmas.Option.{slice_get_within}
-use Rattle.entries.specs.declared.row.Row.{Row}
-use Rattle.links_drains.specs.Phases.{is_unfinished}
-use Rattle.links_drains.specs.Endings.{Ending, result_in, endings, endings_from, or_else, Direct}
-use Rattle.links_drains.proofs.Listing.{result_of, alike}
-use Rattle.links_drains.proofs.Rising.{ends_at, rising}
-use Rattle.timeouts_cancel.specs.Cascades.{joined}
-use Rattle.timeouts_cancel.specs.Merges.{Rises, Splits}
-use Rattle.timeouts_cancel.specs.Walks.{upto}
+use Rattle.timeouts_cancel.proofs.Common.{◌≡◌, ℕ, ℤ, Bool, true, cond, refl, sym, ◌∙◌, ap, List, [], ◌∷◌, length, ◌+◌, ◌<◌, ◌≤◌, arith, Option, Some, None, slice_get, ◌==◌, take_all, slice_get_within, Row, is_unfinished, Ending, result_in, endings, endings_from, or_else, Direct, result_of, alike, ends_at, rising, joined, Rises, Splits, upto}
 use Rattle.timeouts_cancel.proofs.Again.{listed_row}
 use Rattle.timeouts_cancel.proofs.Sweeping.{none_within}
 use Rattle.timeouts_cancel.proofs.Walking.{split, undirected, upto_gap}

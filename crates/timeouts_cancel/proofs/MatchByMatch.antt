@@ -1,11 +1,7 @@
 -- Finding matches, one by one.
-use Rattle.std.proofs.Common.{◌≡◌, ℕ, Bool, false, not, cond, sym, ◌∙◌, ap, List, [], ◌∷◌, ◌++◌, take, ◌+◌, arith}
+use Rattle.timeouts_cancel.proofs.Common.{◌≡◌, ℕ, Bool, false, not, cond, sym, ◌∙◌, ap, List, [], ◌∷◌, ◌++◌, take, ◌+◌, arith, filter, enumerate_from, and_left, length-append, map-append, Row, is_match, is_waiting_match, matches_of, found_by, found_first, waiting_by, IsNextMatch, NoMatchFrom, Passed}
 use Rattle.std.specs.Prelude.{Some, map, option_map, slice_get, length, ◌&&◌}
-use Rattle.std.specs.List.{filter, enumerate_from}
-use Rattle.std.proofs.lemmas.Bool.{and_left}
-use Rattle.std.proofs.lemmas.List.{length-append, map-append}
 use Rattle.std.proofs.lemmas.List.Elements.{filter-append}
-use Rattle.entries.specs.declared.row.Row.{Row}
 use Rattle.model_files.specs.Worlds.{WorldState}
 use Rattle.opcodes.specs.Outcomes.{is_running}
 use Rattle.links_drains.specs.Units.{IsNextIssued}
@@ -15,7 +11,6 @@ use Rattle.links_drains.proofs.Filters.{filter_skip, first_numbered, none_number
 use Rattle.links_drains.proofs.RestOfUnit.{none_after, numbered}
 use Rattle.timeouts_cancel.specs.declared.matching.Key.{Key}
 use Rattle.timeouts_cancel.specs.declared.matching.Found.TheVariants.{Absent}
-use Rattle.timeouts_cancel.specs.Matches.{is_match, is_waiting_match, matches_of, found_by, found_first, waiting_by, IsNextMatch, NoMatchFrom, Passed}
 
 -- The tests of a numbered row.
 abbrev matches : Key → ℕ → ℕ × Row → Bool

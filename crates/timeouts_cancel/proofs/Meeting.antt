@@ -1,13 +1,7 @@
 -- Finding the TIMEOUTs whose count is reached, one by one.
-use Rattle.std.proofs.Common.{◌≡◌, ℕ, ℤ, pos, true, false, sym, ◌∙◌, List, [], ◌∷◌, ◌++◌, ◌+◌, ◌-◌, arith}
-use Rattle.std.specs.Prelude.{Option, Some, None}
-use Rattle.entries.specs.declared.row.Row.{Row}
-use Rattle.links_drains.specs.Endings.{Ending, given}
-use Rattle.links_drains.proofs.Listing.{result_of}
-use Rattle.timeouts_cancel.specs.Cascades.{is_met}
+use Rattle.timeouts_cancel.proofs.Common.{◌≡◌, ℕ, ℤ, pos, true, false, sym, ◌∙◌, List, [], ◌∷◌, ◌++◌, ◌+◌, arith, Option, Some, None, Row, Ending, given, result_of, is_met, upto}
 use Rattle.links_drains.specs.Counts.{IsNextMet, NoneMetFrom}
 use Rattle.timeouts_cancel.specs.Timers.{met_rows}
-use Rattle.timeouts_cancel.specs.Walks.{upto}
 use Rattle.timeouts_cancel.proofs.Listed.{upto_all}
 use Rattle.timeouts_cancel.proofs.Walking.{upto_next}
 

@@ -1,11 +1,5 @@
 -- In a cascade, only direct completions sever chains.
-use Rattle.std.proofs.Common.{◌≡◌, ℕ, ℤ, pos, Bool, true, false, ◌∙◌, List, ◌<◌, arith}
-use Rattle.std.specs.Prelude.{Some, slice_get, ◌&&◌}
-use Rattle.entries.specs.declared.row.Row.{Row}
-use Rattle.links_drains.specs.Links.{is_guard}
-use Rattle.links_drains.specs.Endings.{Ending}
-use Rattle.timeouts_cancel.specs.Cascades.{is_severed, severs_by, is_bad, is_count_timeout}
-use Rattle.timeouts_cancel.specs.Walks.{Severs}
+use Rattle.timeouts_cancel.proofs.Common.{◌≡◌, ℕ, ℤ, pos, Bool, true, false, ◌∙◌, List, ◌<◌, arith, Some, slice_get, ◌&&◌, Row, is_guard, Ending, is_severed, severs_by, is_bad, is_count_timeout, Severs}
 use Rattle.timeouts_cancel.proofs.Again.{any_at}
 
 pub both : (a b : Bool) → (a && b) ≡ true → (a ≡ true) × (b ≡ true)

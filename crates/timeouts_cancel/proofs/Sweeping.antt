@@ -1,14 +1,5 @@
 -- Adding the rest of a chain that was severed.
-use Rattle.std.proofs.Common.{◌≡◌, ℕ, zero, suc, true, cond, refl, sym, ◌∙◌, ap, List, [], ◌∷◌, ◌++◌, length, ◌+◌, ◌<◌, ◌≤◌, arith}
-use Rattle.std.specs.Prelude.{Some, None, slice_get}
-use Rattle.std.proofs.lemmas.List.{take_all}
-use Rattle.std.proofs.lemmas.Option.{slice_get_within}
-use Rattle.entries.specs.declared.row.Row.{Row}
-use Rattle.links_drains.specs.Links.{is_soft_linked, Chained}
-use Rattle.links_drains.specs.Phases.{is_unfinished}
-use Rattle.links_drains.specs.Endings.{Ending, paired, endings, ecanceled, Direct}
-use Rattle.timeouts_cancel.specs.Cascades.{is_severed, is_bad}
-use Rattle.timeouts_cancel.specs.Walks.{Severs, Walked, Sweeping, own_endings, severed_endings, result_by}
+use Rattle.timeouts_cancel.proofs.Common.{◌≡◌, ℕ, zero, suc, true, cond, refl, sym, ◌∙◌, ap, List, [], ◌∷◌, ◌++◌, length, ◌+◌, ◌<◌, ◌≤◌, arith, Some, None, slice_get, take_all, slice_get_within, Row, is_soft_linked, Chained, is_unfinished, Ending, paired, endings, ecanceled, Direct, is_severed, is_bad, Severs, Walked, Sweeping, own_endings, severed_endings, result_by}
 use Rattle.timeouts_cancel.proofs.Walking.{of_one, upto_gap, upto_next, test_direct, test_other, severed_if, NotDirect, split, between, listed_direct, below_next, above_next}
 
 pub none_within : {X : Type 0} (zs : List X) (n : ℕ) → slice_get zs n ≡ None → n < length zs → ⊥

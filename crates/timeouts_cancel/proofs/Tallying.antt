@@ -1,15 +1,5 @@
 -- How many listed completions count for TIMEOUTs.
-use Rattle.std.proofs.Common.{◌≡◌, ℕ, ℤ, zero, suc, Bool, true, false, cond, refl, sym, ◌∙◌, ap, subst, List, [], ◌∷◌, length, ◌+◌, ◌≤◌, arith}
-use Rattle.std.specs.Prelude.{Option, Some, slice_get, is_some, ◌&&◌}
-use Rattle.std.specs.Option.{option_map_or}
-use Rattle.std.specs.List.{filter, cons_option}
-use Rattle.std.proofs.lemmas.Bool.{eqb-true}
-use Rattle.entries.specs.declared.row.Row.{Row}
-use Rattle.links_drains.specs.Phases.{is_unfinished, counts}
-use Rattle.links_drains.specs.Endings.{Ending, result_in, paired, endings, or_else, given, endings_from}
-use Rattle.links_drains.specs.Links.{is_guard}
-use Rattle.timeouts_cancel.specs.Cascades.{is_met, counted_in}
-use Rattle.links_drains.proofs.Listing.{endings_step, result_of}
+use Rattle.timeouts_cancel.proofs.Common.{◌≡◌, ℕ, ℤ, zero, suc, Bool, true, false, cond, refl, sym, ◌∙◌, ap, subst, List, [], ◌∷◌, length, ◌+◌, ◌≤◌, arith, Option, Some, slice_get, is_some, ◌&&◌, option_map_or, filter, cons_option, eqb-true, Row, is_unfinished, counts, Ending, result_in, paired, endings, or_else, given, endings_from, is_guard, is_met, counted_in, endings_step, result_of}
 use Rattle.timeouts_cancel.proofs.Again.{listed_row}
 
 -- How many rows, numbered from n, count and have a result.

@@ -1,17 +1,5 @@
 -- Finding the linked timeouts of listed requests, one by one.
-use Rattle.std.proofs.Common.{◌≡◌, ℕ, ℤ, Bool, true, false, cond, refl, ◌∙◌, ap, List, ◌++◌, length, ◌+◌, ◌-◌, ◌<◌, ◌≤◌, ◌⊎◌, arith}
-use Rattle.std.specs.Prelude.{Option, Some, None, slice_get}
-use Rattle.std.specs.Option.{option_map_or}
-use Rattle.std.proofs.lemmas.List.{append-nil}
-use Rattle.std.proofs.lemmas.Option.{slice_get_within}
-use Rattle.entries.specs.declared.row.Row.{Row}
-use Rattle.links_drains.specs.Endings.{Ending, paired, given, ecanceled, Direct}
-use Rattle.links_drains.specs.Links.{is_guard}
-use Rattle.links_drains.specs.Phases.{is_unfinished}
-use Rattle.links_drains.proofs.Listing.{result_of}
-use Rattle.timeouts_cancel.specs.Cascades.{guards_listed, GuardsAreLinked}
-use Rattle.timeouts_cancel.specs.Guarding.{guarding, guards_row, Guarded}
-use Rattle.timeouts_cancel.specs.Walks.{upto}
+use Rattle.timeouts_cancel.proofs.Common.{◌≡◌, ℕ, ℤ, Bool, true, false, cond, refl, ◌∙◌, ap, List, ◌++◌, length, ◌+◌, ◌<◌, ◌≤◌, ◌⊎◌, arith, Option, Some, None, slice_get, option_map_or, append-nil, slice_get_within, Row, Ending, paired, given, ecanceled, Direct, is_guard, is_unfinished, result_of, guards_listed, GuardsAreLinked, guarding, guards_row, Guarded, upto}
 use Rattle.timeouts_cancel.proofs.Again.{any_at, any_found}
 use Rattle.timeouts_cancel.proofs.Listed.{upto_all}
 use Rattle.timeouts_cancel.proofs.Sweeping.{same_ending}

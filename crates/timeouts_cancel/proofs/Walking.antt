@@ -1,18 +1,6 @@
 -- Processing the direct completions, and the requests that they sever, in one pass.
-use Rattle.std.proofs.Common.{◌≡◌, ℕ, ℤ, zero, suc, Bool, true, false, cond, refl, sym, ◌∙◌, ap, subst, List, [], ◌∷◌, ◌++◌, take, ◌+◌, ◌-◌, ◌<◌, ◌≤◌, ◌⊎◌, arith}
-use Rattle.std.specs.Prelude.{Option, Some, None, slice_get, ◌==◌, ◌&&◌}
-use Rattle.std.specs.List.{cons_option}
-use Rattle.std.proofs.lemmas.Bool.{eqb-true}
-use Rattle.std.proofs.lemmas.List.{append-nil}
-use Rattle.entries.specs.declared.row.Row.{Row}
-use Rattle.links_drains.specs.Links.{is_soft_linked}
-use Rattle.links_drains.specs.Phases.{is_unfinished}
-use Rattle.links_drains.specs.Endings.{Ending, result_in, paired, endings, given, ecanceled, Direct, endings_from}
-use Rattle.timeouts_cancel.specs.Cascades.{is_severed, is_bad}
-use Rattle.links_drains.proofs.Listing.{result_of}
-use Rattle.links_drains.proofs.Rising.{ends_at}
+use Rattle.timeouts_cancel.proofs.Common.{◌≡◌, ℕ, ℤ, zero, suc, Bool, true, false, cond, refl, sym, ◌∙◌, ap, subst, List, [], ◌∷◌, ◌++◌, take, ◌+◌, ◌-◌, ◌<◌, ◌≤◌, ◌⊎◌, arith, Option, Some, None, slice_get, ◌==◌, ◌&&◌, cons_option, eqb-true, append-nil, Row, is_soft_linked, is_unfinished, Ending, result_in, paired, endings, given, ecanceled, Direct, endings_from, is_severed, is_bad, result_of, ends_at, Severs, Walked, own_endings, result_by, upto}
 use Rattle.timeouts_cancel.proofs.Again.{any_found, result_there, listed_row}
-use Rattle.timeouts_cancel.specs.Walks.{Severs, Walked, own_endings, result_by, upto}
 use Rattle.timeouts_cancel.proofs.Severing.{severs_is, severed_by}
 
 -- ---- The completions among the first rows

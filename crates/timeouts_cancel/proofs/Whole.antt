@@ -1,15 +1,5 @@
 -- The cascade is complete: applying its rules again adds nothing.
-use Rattle.std.proofs.Common.{◌≡◌, ℕ, ℤ, pos, Bool, true, false, refl, sym, ◌∙◌, ap, List, [], ◌∷◌, ◌+◌, ◌<◌, arith}
-use Rattle.std.specs.Prelude.{Option, Some, None, slice_get}
-use Rattle.std.specs.Option.{option_map_or}
-use Rattle.std.proofs.lemmas.Bool.{eqb-true, eq-eqb}
-use Rattle.entries.specs.declared.row.Row.{Row}
-use Rattle.links_drains.specs.Phases.{is_unfinished}
-use Rattle.links_drains.specs.Endings.{Ending, result_in, given, or_else, is_listed, ecanceled}
-use Rattle.links_drains.specs.Links.{is_guard}
-use Rattle.timeouts_cancel.specs.Cascades.{joined, with_severed, with_met, with_guards, is_severed, guards_listed, is_met, counted_in, fall_of, severs_by, GuardsFormed, IsWhole}
-use Rattle.timeouts_cancel.specs.Walks.{Severs, own_endings, severed_endings}
-use Rattle.links_drains.proofs.Rising.{ends_at, rising}
+use Rattle.timeouts_cancel.proofs.Common.{◌≡◌, ℕ, ℤ, pos, Bool, true, false, refl, sym, ◌∙◌, ap, List, [], ◌∷◌, ◌+◌, ◌<◌, arith, Option, Some, None, slice_get, option_map_or, eqb-true, eq-eqb, Row, is_unfinished, Ending, result_in, given, or_else, is_listed, ecanceled, is_guard, joined, with_severed, with_met, with_guards, is_severed, guards_listed, is_met, counted_in, fall_of, severs_by, GuardsFormed, IsWhole, Severs, own_endings, severed_endings, ends_at, rising}
 use Rattle.timeouts_cancel.proofs.Again.{any_at, any_found, result_there, listed_row, or_else_none, given_none, given_is, joined_nothing}
 use Rattle.timeouts_cancel.proofs.Walking.{result_at}
 use Rattle.timeouts_cancel.proofs.Tallying.{joined_counts, guard_counts, met_counts}

@@ -1,10 +1,6 @@
 use Rattle.std.proofs.lemmas.Int.{to_z-of_z}
 use Rattle.std.specs.Int.{w32}
-use Rattle.std.proofs.Common.{◌≡◌, sym, ◌∙◌, ap}
-use Rattle.std.specs.Prelude.{Some}
-use Rattle.model_files.specs.declared.stock.Stock.TheVariants.{Pipe}
-use Rattle.model_files.specs.Worlds.{stock_of}
-use Rattle.model_files.proofs.Fixing.{setup_synced}
+use Rattle.opcodes.proofs.Common.{◌≡◌, sym, ◌∙◌, ap, Some, Pipe, stock_of, setup_synced}
 use Rattle.opcodes.proofs.Transferring.{gives_out, row_read, row_written, setup_either, takes_in}
 use Rattle.opcodes.proofs.effect.carry_out.Goals as goal
 

@@ -1,8 +1,5 @@
-use Rattle.std.proofs.Common.{sym}
+use Rattle.opcodes.proofs.Common.{sym, Some, offset_of, position_of, setup_then, setup_written}
 use Rattle.opcodes.proofs.Nothing.{bytes_written_nothing}
-use Rattle.std.specs.Prelude.{Some}
-use Rattle.opcodes.specs.Outcomes.{offset_of, position_of}
-use Rattle.model_files.proofs.Fixing.{setup_then, setup_written}
 use Rattle.opcodes.proofs.Transferring.{some_bytes}
 use Rattle.opcodes.proofs.effect.write_bytes.Goals as goal
 

@@ -1,8 +1,4 @@
-use Rattle.std.proofs.Common.{◌≡◌, sym, subst, ◌++◌, length, ◌≤◌, ◌+◌, min, rules}
-use Rattle.std.specs.Prelude.{not}
-use Rattle.ring_words.specs.declared.flag.RingFlag.TheVariants.{CqOverflow}
-use Rattle.ring_words.specs.Rings.{com_list, has_flag, waiting}
-use Rattle.overflow.specs.Backlogs.{kept, is_clear, delivery_of, Delivery, DeliveryFormed, flushed}
+use Rattle.overflow.proofs.Common.{◌≡◌, sym, subst, ◌++◌, length, ◌≤◌, ◌+◌, min, rules, not, CqOverflow, com_list, has_flag, waiting, kept, is_clear, delivery_of, Delivery, DeliveryFormed, flushed}
 use Rattle.overflow.proofs.KeptInOrder.{flushed_in_row, flushed_into_ring, flushed_flag, flushed_formed, flushed_size}
 use Rattle.overflow.proofs.delivering.flush.Goals as goal
 

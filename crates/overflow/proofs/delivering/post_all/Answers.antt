@@ -1,9 +1,4 @@
-use Rattle.std.proofs.Common.{◌≡◌, sym, subst, ◌++◌, length, ◌≤◌, ◌+◌, min, true, arith}
-use Rattle.std.specs.Prelude.{not}
-use Rattle.std.proofs.lemmas.Grind.{common_steps}
-use Rattle.ring_words.specs.declared.flag.RingFlag.TheVariants.{CqOverflow}
-use Rattle.ring_words.specs.Rings.{com_list, has_flag, waiting}
-use Rattle.overflow.specs.Backlogs.{kept, is_clear, delivery_of, Delivery, DeliveryFormed, all_posted}
+use Rattle.overflow.proofs.Common.{◌≡◌, sym, subst, ◌++◌, length, ◌≤◌, ◌+◌, min, true, arith, not, common_steps, CqOverflow, com_list, has_flag, waiting, kept, is_clear, delivery_of, Delivery, DeliveryFormed, all_posted}
 use Rattle.overflow.proofs.KeptInOrder.{posted_in_row, posted_into_ring, posted_flag, posted_formed, posted_size}
 use Rattle.overflow.proofs.delivering.post_all.Goals as goal
 

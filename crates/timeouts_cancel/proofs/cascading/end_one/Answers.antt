@@ -1,11 +1,4 @@
-use Rattle.std.proofs.Common.{◌≡◌, ◌∙◌, pos, true, false, sym, ap, subst, List, [], ◌∷◌, ◌++◌, ◌+◌, w32, FitsSigned, rules, slice_index_or}
-use Rattle.std.specs.Prelude.{◌&&◌}
-use Rattle.std.proofs.lemmas.Int.{to_z-of_z}
-use Rattle.std.proofs.lemmas.Option.{slice_get-get_or}
-use Rattle.links_drains.specs.Links.{is_soft_linked}
-use Rattle.links_drains.specs.Endings.{Ending}
-use Rattle.timeouts_cancel.specs.Cascades.{is_bad}
-use Rattle.timeouts_cancel.specs.Walks.{Walked, Sweeping}
+use Rattle.timeouts_cancel.proofs.Common.{◌≡◌, ◌∙◌, pos, true, false, sym, ap, subst, List, [], ◌∷◌, ◌++◌, ◌+◌, w32, FitsSigned, rules, slice_index_or, ◌&&◌, to_z-of_z, slice_get-get_or, is_soft_linked, Ending, is_bad, Walked, Sweeping}
 use Rattle.timeouts_cancel.proofs.Severing.{both}
 use Rattle.timeouts_cancel.proofs.Walking.{walked_direct}
 use Rattle.timeouts_cancel.proofs.Sweeping.{sweep_start}

@@ -1,9 +1,4 @@
-use Rattle.std.proofs.Common.{◌≡◌, ◌∙◌, ◌+◌, ap, subst, arith, List}
-use Rattle.std.specs.Prelude.{IfOk}
-use Rattle.links_drains.specs.Endings.{Ending}
-use Rattle.entries.specs.declared.row.Row.{Row}
-use Rattle.timeouts_cancel.specs.Cascades.{counted_in}
-use Rattle.timeouts_cancel.specs.Guarding.{guarding}
+use Rattle.timeouts_cancel.proofs.Common.{◌≡◌, ◌∙◌, ◌+◌, ap, subst, arith, List, IfOk, Ending, Row, counted_in, guarding}
 use Rattle.timeouts_cancel.proofs.Whole.{ms}
 use Rattle.timeouts_cancel.proofs.Filters.{met_direct, joined_direct, guards_direct, severed_few, counted_few, met_so, cascade_so}
 use Rattle.timeouts_cancel.proofs.cascading.fall.Goals as goal

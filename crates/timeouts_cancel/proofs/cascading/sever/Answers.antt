@@ -1,9 +1,5 @@
 use Rattle.std.proofs.Common.{◌≡◌, ◌∙◌, ℕ, Some, None, refl, sym, ap, subst, cond, ◌++◌, ◌∷◌, [], List, ◌≤◌, arith, w32, FitsSigned, rules}
-use Rattle.std.proofs.lemmas.Int.{to_z-of_z}
-use Rattle.std.proofs.lemmas.List.{append-nil}
-use Rattle.entries.specs.declared.row.Row.{Row}
-use Rattle.links_drains.specs.Endings.{Ending, ecanceled, paired}
-use Rattle.timeouts_cancel.specs.Walks.{Sweeping, SweepsOn}
+use Rattle.timeouts_cancel.proofs.Common.{to_z-of_z, append-nil, Row, Ending, ecanceled, paired, Sweeping, SweepsOn}
 use Rattle.timeouts_cancel.proofs.Walking.{of_one}
 use Rattle.timeouts_cancel.proofs.Sweeping.{same_row, sweep_direct, sweep_other, sweep_end, others_later}
 use Rattle.timeouts_cancel.proofs.cascading.sever.Goals as goal

@@ -1,5 +1,4 @@
-use Rattle.std.proofs.Common.{ℕ, length, ◌-◌}
-use Rattle.timeouts_cancel.specs.Walks.{Walked}
+use Rattle.timeouts_cancel.proofs.Common.{ℕ, length, ◌-◌, Walked}
 use Rattle.timeouts_cancel.proofs.cascading.with_severed.Given as goal
 
 abbrev pub invariant-loop-at : goal.invariant-loop-at

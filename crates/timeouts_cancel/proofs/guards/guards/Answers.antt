@@ -1,8 +1,5 @@
 use Rattle.std.proofs.Common.{◌≡◌, ◌∙◌, pos, Some, None, sym, ap, cond, ◌++◌, ◌+◌, slice_index_or}
-use Rattle.std.specs.Prelude.{slice_get}
-use Rattle.std.proofs.lemmas.List.{append-nil}
-use Rattle.std.proofs.lemmas.Option.{slice_get-get_or}
-use Rattle.links_drains.specs.Endings.{Ending, ecanceled, paired}
+use Rattle.timeouts_cancel.proofs.Common.{slice_get, append-nil, slice_get-get_or, Ending, ecanceled, paired}
 use Rattle.timeouts_cancel.proofs.Targets.{guarded_all, guarded_next}
 use Rattle.timeouts_cancel.proofs.Walking.{of_one}
 use Rattle.timeouts_cancel.proofs.guards.guards.Goals as goal

@@ -1,5 +1,4 @@
-use Rattle.std.proofs.Common.{◌∙◌, ◌++◌, ◌∷◌, [], sym, ap, true, false}
-use Rattle.std.proofs.lemmas.List.{append-nil}
+use Rattle.timeouts_cancel.proofs.Common.{◌∙◌, ◌++◌, ◌∷◌, [], sym, ap, true, false, append-nil}
 use Rattle.timeouts_cancel.proofs.MatchByMatch.{waiting_on}
 use Rattle.timeouts_cancel.proofs.matching.all_by.Goals as goal
 use Rattle.timeouts_cancel.proofs.matching.all_by.Goals.{then-not-is_running+in_ok-push, else-not-is_running}

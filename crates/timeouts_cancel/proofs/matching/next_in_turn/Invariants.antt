@@ -1,5 +1,4 @@
-use Rattle.std.proofs.Common.{◌-◌}
-use Rattle.timeouts_cancel.specs.Matches.{Passed}
+use Rattle.timeouts_cancel.proofs.Common.{◌-◌, Passed}
 use Rattle.timeouts_cancel.proofs.matching.next_in_turn.Given as goal
 
 abbrev pub invariant-loop-r : goal.invariant-loop-r

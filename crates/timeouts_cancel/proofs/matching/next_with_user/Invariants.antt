@@ -1,5 +1,4 @@
-use Rattle.std.proofs.Common.{◌≤◌, length}
-use Rattle.timeouts_cancel.specs.Matches.{FoundPast, Passed}
+use Rattle.timeouts_cancel.proofs.Common.{◌≤◌, length, FoundPast, Passed}
 use Rattle.timeouts_cancel.proofs.matching.next_with_user.Given as goal
 
 abbrev pub invariant-loop-at : goal.invariant-loop-at

@@ -1,6 +1,4 @@
-use Rattle.std.proofs.Common.{◌∙◌, sym, ap, List, []}
-use Rattle.links_drains.specs.Endings.{Ending, result_in}
-use Rattle.timeouts_cancel.specs.Cascades.{joined}
+use Rattle.timeouts_cancel.proofs.Common.{◌∙◌, sym, ap, List, [], Ending, result_in, joined}
 use Rattle.timeouts_cancel.proofs.Listed.{joined_none, nothing_in}
 use Rattle.timeouts_cancel.proofs.merging.add.Goals as goal
 

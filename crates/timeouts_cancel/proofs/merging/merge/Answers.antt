@@ -1,5 +1,4 @@
-use Rattle.std.proofs.Common.{◌∙◌, ap, ◌∷◌, [], ◌++◌, ◌+◌, w32, FitsSigned, rules}
-use Rattle.std.proofs.lemmas.Int.{to_z-of_z}
+use Rattle.timeouts_cancel.proofs.Common.{◌∙◌, ap, ◌∷◌, [], ◌++◌, ◌+◌, w32, FitsSigned, rules, to_z-of_z}
 use Rattle.timeouts_cancel.proofs.Joining.{merged_all, merged_next}
 use Rattle.timeouts_cancel.proofs.merging.merge.Goals as goal
 

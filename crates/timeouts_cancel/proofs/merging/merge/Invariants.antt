@@ -1,5 +1,4 @@
-use Rattle.std.proofs.Common.{ℕ, length, ◌+◌, ◌-◌}
-use Rattle.timeouts_cancel.specs.Merges.{Merged}
+use Rattle.timeouts_cancel.proofs.Common.{ℕ, length, ◌+◌, ◌-◌, Merged}
 use Rattle.timeouts_cancel.proofs.merging.merge.Given as goal
 
 abbrev pub invariant-loop-r : goal.invariant-loop-r

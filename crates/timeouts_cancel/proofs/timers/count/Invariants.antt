@@ -1,5 +1,4 @@
-use Rattle.std.proofs.Common.{◌≡◌, ◌≤◌, take}
-use Rattle.timeouts_cancel.specs.Cascades.{counted_in}
+use Rattle.timeouts_cancel.proofs.Common.{◌≡◌, ◌≤◌, take, counted_in}
 use Rattle.timeouts_cancel.proofs.timers.count.Given as goal
 
 abbrev pub invariant-loop-r : goal.invariant-loop-r

@@ -1,5 +1,4 @@
-use Rattle.std.proofs.Common.{◌≡◌, ◌-◌}
-use Rattle.timeouts_cancel.specs.Walks.{upto}
+use Rattle.timeouts_cancel.proofs.Common.{◌≡◌, ◌-◌, upto}
 use Rattle.timeouts_cancel.proofs.Meeting.{met_result}
 use Rattle.timeouts_cancel.proofs.timers.met.Given as goal
 

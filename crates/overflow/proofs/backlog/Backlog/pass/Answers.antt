@@ -1,5 +1,4 @@
-use Rattle.std.proofs.Common.{refl}
-use Rattle.places.proofs.Keeping.{keeps_noted}
+use Rattle.overflow.proofs.Common.{refl, keeps_noted}
 use Rattle.overflow.proofs.Seen.{seen_front}
 use Rattle.overflow.proofs.backlog.Backlog.pass.Goals as goal
 

@@ -1,6 +1,4 @@
-use Rattle.std.proofs.Common.{◌≡◌}
-use Rattle.std.specs.Prelude.{Some, None}
-use Rattle.places.specs.declared.value.Value.TheVariants.{Number, Completed}
+use Rattle.overflow.proofs.Common.{◌≡◌, Some, None, Number, Completed}
 use Rattle.overflow.proofs.Seen.{seen_item, seen_taken, seen_front}
 use Rattle.overflow.proofs.backlog.BacklogPart.put.Goals as goal
 

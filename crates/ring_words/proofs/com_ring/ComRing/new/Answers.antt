@@ -1,5 +1,4 @@
-use Rattle.std.proofs.Common.{◌≡◌, ◌∙◌, length, subst, sym, ℕ, arith}
-use Rattle.ring_words.specs.Rings.{IsSize}
+use Rattle.ring_words.proofs.Common.{◌≡◌, ◌∙◌, length, subst, sym, ℕ, arith, IsSize}
 use Rattle.ring_words.proofs.Sizes.{next_size}
 use Rattle.ring_words.proofs.com_ring.ComRing.new.Goals as goal
 

@@ -1,6 +1,4 @@
-use Rattle.std.proofs.Common.{◌≡◌, refl, ◌∙◌, ◌<◌, ◌%◌, length, arith}
-use Rattle.std.proofs.lemmas.Option.{slice_get_read}
-use Rattle.places.proofs.Keeping.{keeps_noted}
+use Rattle.ring_words.proofs.Common.{◌≡◌, refl, ◌∙◌, ◌<◌, ◌%◌, length, arith, slice_get_read, keeps_noted}
 use Rattle.ring_words.proofs.Order.{list_front}
 use Rattle.ring_words.proofs.Sizes.{size_divides, size_some}
 use Rattle.ring_words.proofs.Seen.{com_seen_head}

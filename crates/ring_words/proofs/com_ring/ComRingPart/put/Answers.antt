@@ -1,6 +1,4 @@
-use Rattle.std.proofs.Common.{◌≡◌}
-use Rattle.std.specs.Prelude.{Some}
-use Rattle.places.specs.declared.value.Value.TheVariants.{Number, Completed}
+use Rattle.ring_words.proofs.Common.{◌≡◌, Some, Number, Completed}
 use Rattle.ring_words.proofs.Seen.{com_seen_head, com_seen_tail, com_seen_slot}
 use Rattle.ring_words.proofs.com_ring.ComRingPart.put.Goals as goal
 

@@ -1,5 +1,4 @@
-use Rattle.std.proofs.Common.{refl}
-use Rattle.places.proofs.Keeping.{keeps_noted}
+use Rattle.ring_words.proofs.Common.{refl, keeps_noted}
 use Rattle.ring_words.proofs.Seen.{sub_seen_flags}
 use Rattle.ring_words.proofs.sub_ring.SubRing.set_flag.Goals as goal
 

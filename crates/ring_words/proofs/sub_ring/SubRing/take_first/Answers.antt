@@ -1,5 +1,4 @@
-use Rattle.std.proofs.Common.{refl, ◌≤◌, arith}
-use Rattle.places.proofs.Keeping.{keeps_noted, keeps_then}
+use Rattle.ring_words.proofs.Common.{refl, ◌≤◌, arith, keeps_noted, keeps_then}
 use Rattle.ring_words.proofs.Order.{list_after}
 use Rattle.ring_words.proofs.Sizes.{size_divides, size_some}
 use Rattle.ring_words.proofs.Seen.{sub_seen_head, sub_seen_dropped}

@@ -1,7 +1,4 @@
-use Rattle.std.proofs.Common.{◌≡◌, sym, ◌∙◌, ap, ◌<◌, ◌+◌, ◌%◌, ◌^◌, length, arith}
-use Rattle.std.specs.Prelude.{slice_get}
-use Rattle.std.proofs.Math.Nat.{mod-mod_of_dvd}
-use Rattle.std.proofs.lemmas.Option.{slice_get_read}
+use Rattle.ring_words.proofs.Common.{◌≡◌, sym, ◌∙◌, ap, ◌<◌, ◌+◌, ◌%◌, ◌^◌, length, arith, slice_get, mod-mod_of_dvd, slice_get_read}
 use Rattle.ring_words.proofs.Order.{items_get}
 use Rattle.ring_words.proofs.Sizes.{size_divides, size_some}
 use Rattle.ring_words.proofs.Laws.{sub_length}

@@ -1,6 +1,4 @@
-use Rattle.std.proofs.Common.{◌≡◌}
-use Rattle.std.specs.Prelude.{Some}
-use Rattle.places.specs.declared.value.Value.TheVariants.{Number, Entry}
+use Rattle.ring_words.proofs.Common.{◌≡◌, Some, Number, Entry}
 use Rattle.ring_words.proofs.Seen.{sub_seen_head, sub_seen_tail, sub_seen_flags, sub_seen_dropped, sub_seen_word, sub_seen_slot}
 use Rattle.ring_words.proofs.sub_ring.SubRingPart.put.Goals as goal
 
