@@ -11,9 +11,9 @@ ghost use Rattle.links_drains.specs.Units.{passes_at, is_open, is_barrier as is_
 mod queued;
 
 use crate::links::{has_drain_flag, is_guard, is_issued, is_queued, is_unfinished, threshold_of};
+use crate::table::Rows;
 use bit_sets::BitSet;
 use bit_sets::thresholds::{NEVER, Thresholds};
-use entries::Row;
 use std::alloc::{AllocError, Global};
 
 /// Sets of request numbers, stored as bitmaps, and the thresholds of TIMEOUTs.
@@ -49,7 +49,7 @@ impl Index {
     }
 
     /// Makes room for one more request.
-    pub(crate) fn make_room(&mut self, rows: &[Row]) -> Result<(), AllocError>
+    pub(crate) fn make_room(&mut self, rows: &Rows) -> Result<(), AllocError>
         requires indexed { Indexed rows.now self.old }
         requires few { length rows.now < 65536 }
         ensures ok { OnOk result (HasRoom (length rows.now + 1) self.new) }
@@ -64,7 +64,7 @@ impl Index {
 
     /// Updates the index for request r, which is new, has changed within its chain, or is now the
     /// last.
-    pub(crate) fn update(&mut self, rows: &[Row], r: usize)
+    pub(crate) fn update(&mut self, rows: &Rows, r: usize)
         requires { (row : Row) × (slice_get rows.now r ≡ Some row)
             × IndexedBut r row.unit rows.now self.old }
         ensures { Indexed rows.now self.new }
@@ -78,15 +78,19 @@ impl Index {
         self.thresholds.write(r, threshold_of(row));
     }
 
-    /// Drops the requests from number n on, in time linear in how many they are.
-    pub(crate) fn cut(&mut self, rows: &[Row], n: usize)
-        requires indexed { Indexed rows.now self.old }
-        requires within { n ≤ length rows.now }
-        ensures { Indexed (take n rows.now) self.new }
+    /// Drops the requests after those that are left, up to number n, in time linear in how many they
+    /// are.
+    pub(crate) fn cut(&mut self, rows: &Rows, n: usize)
+        ghost before: { List Row }
+        requires indexed { Indexed before self.old }
+        requires len { length before ≡ n }
+        requires left { rows.now ≡ take (length rows.now) before }
+        requires within { length rows.now ≤ n }
+        ensures { Indexed rows.now self.new }
     {
-        self.forget(n, rows.len());
-        if n > 0 {
-            self.update(&rows[..n], n - 1);
+        self.forget(rows.len(), n);
+        if !rows.is_empty() {
+            self.update(rows, rows.len() - 1);
         }
     }
 
@@ -105,7 +109,7 @@ impl Index {
     }
 
     /// Returns whether request r may be issued, in constant time.
-    pub(crate) fn is_eligible(&self, rows: &[Row], r: usize) -> bool
+    pub(crate) fn is_eligible(&self, rows: &Rows, r: usize) -> bool
         requires indexed { Indexed rows.now self.now }
         requires guards { GuardsFollow rows.now }
         ensures { result ≡ is_eligible rows.now r }
@@ -167,7 +171,7 @@ impl Index {
 }
 
 // Whether the chain drains and has an unfinished request.
-fn is_barrier(flagged: &BitSet, unfinished: &BitSet, rows: &[Row], unit: u32) -> bool
+fn is_barrier(flagged: &BitSet, unfinished: &BitSet, rows: &Rows, unit: u32) -> bool
     requires chained { Chained rows.now }
     requires flagged { (r : ℕ) → has flagged.now r ≡ passes_at has_drain rows.now r }
     requires unfinished { (r : ℕ) → has unfinished.now r ≡ passes_at is_open rows.now r }
@@ -181,7 +185,7 @@ fn is_barrier(flagged: &BitSet, unfinished: &BitSet, rows: &[Row], unit: u32) ->
 }
 
 // Whether a set of request numbers has a request of the chain.
-fn has_row_of(set: &BitSet, rows: &[Row], unit: u32) -> bool
+fn has_row_of(set: &BitSet, rows: &Rows, unit: u32) -> bool
     requires chained { Chained rows.now }
     requires within { (r : ℕ) → has set.now r ≡ true → r < length rows.now }
     ensures { MatchBool result (HasRowOf set.now rows.now unit) (HasNoRowOf set.now rows.now unit) }

@@ -12,5 +12,5 @@ returns-then-r-len-clause-none c = λ r row low less there. absurd (omega (arith
 
 pub returns-clause-none : goal.returns-clause-none
 returns-clause-none c =
-    let read : c.index.result.now ≡ get_or c.args.self.now.previous.items c.args.r 0 = get_or_read c.args.self.now.previous.items c.args.r c.index.result.now (omega arith) c.index.ensures 0 in
+    let read : c.index.result.now ≡ get_or c.args.self.now.previous c.args.r 0 = get_or_read c.args.self.now.previous c.args.r c.index.result.now (omega arith) c.index.ensures 0 in
     no_user_before c.args.rows.now c.args.self.now c.args.user_data c.args.r _ _ c.requires.findable (slice_get-get_or c.args.rows.now c.args.r _ c.requires.within) (sym c.hash_of-other.ensures ∙ c.if-other-hash.false ∙ c.hash_of-hash.ensures) (λ q low less. omega (arith, read, low, less))

@@ -14,14 +14,14 @@ index_mut-requires-2 c = let a = c.requires.room.last in let e = c.args.self.now
 pub returns-clause-previous : goal.returns-clause-previous
 returns-clause-previous c =
     let a = c.requires.room.last in
-    let read : c.index.result.now ≡ get_or c.args.self.now.last.items c.hash_of-hash.result 0 = get_or_read c.args.self.now.last.items c.hash_of-hash.result c.index.result.now (omega (arith, a, c.hash_of-hash.ensures)) c.index.ensures 0 in
-    ap (set c.args.self.now.previous.items c.args.r) (read ∙ ap (λ i. get_or c.args.self.now.last.items i 0) c.hash_of-hash.ensures)
+    let read : c.index.result.now ≡ get_or c.args.self.now.last c.hash_of-hash.result 0 = get_or_read c.args.self.now.last c.hash_of-hash.result c.index.result.now (omega (arith, a, c.hash_of-hash.ensures)) c.index.ensures 0 in
+    ap (set c.args.self.now.previous c.args.r) (read ∙ ap (λ i. get_or c.args.self.now.last i 0) c.hash_of-hash.ensures)
 
 pub returns-clause-room : goal.returns-clause-room
 returns-clause-room c =
     let p = c.requires.room in
     record {
-      last = let a = p.last in let b = length-set c.args.self.now.last.items c.hash_of-hash.result (c.args.r + 1) in omega (arith, a, b);
-      previous = let a = p.previous in let b = length-set c.args.self.now.previous.items c.args.r c.index.result.now in omega (arith, a, b);
+      last = let a = p.last in let b = length-set c.args.self.now.last c.hash_of-hash.result (c.args.r + 1) in omega (arith, a, b);
+      previous = let a = p.previous in let b = length-set c.args.self.now.previous c.args.r c.index.result.now in omega (arith, a, b);
       holding = p.holding;
     }

@@ -11,5 +11,5 @@ index_mut-requires c = let a = c.requires.last in let e = c.args.self.now.last.o
 pub returns-clause-last : goal.returns-clause-last
 returns-clause-last c =
     let a = c.requires.previous in
-    let read : c.index.result.now ≡ get_or c.args.self.now.previous.items c.args.r 0 = get_or_read c.args.self.now.previous.items c.args.r c.index.result.now (omega (arith, a)) c.index.ensures 0 in
-    ap (set c.args.self.now.last.items c.hash_of.result) read ∙ ap (λ i. set c.args.self.now.last.items i (get_or c.args.self.now.previous.items c.args.r 0)) c.hash_of.ensures
+    let read : c.index.result.now ≡ get_or c.args.self.now.previous c.args.r 0 = get_or_read c.args.self.now.previous c.args.r c.index.result.now (omega (arith, a)) c.index.ensures 0 in
+    ap (set c.args.self.now.last c.hash_of.result) read ∙ ap (λ i. set c.args.self.now.last i (get_or c.args.self.now.previous c.args.r 0)) c.hash_of.ensures
