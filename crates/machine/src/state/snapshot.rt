@@ -42,6 +42,14 @@ impl State {
         let machine = self.machine.share(alloc)?;
         Ok(Snapshot { machine })
     }
+
+    fn into_machine(self) -> Machine {
+        let State {
+            machine,
+            notes: _notes,
+        } = self;
+        machine
+    }
 }
 
 impl Snapshot {
@@ -49,18 +57,11 @@ impl Snapshot {
     pub fn restore(&self, alloc: Global, room: Option<State>) -> Result<State, AllocError>
         ensures { IfOk result (λ state. state ≡ self.now) }
     {
-        let machine = self.machine.restore(alloc, machine_in(room))?;
+        let room = room.map(|state| state.into_machine());
+        let machine = self.machine.restore(alloc, room)?;
         Ok(State {
             machine,
             notes: Recorder::new(alloc),
         })
     }
-}
-
-fn machine_in(room: Option<State>) -> Option<Machine> {
-    let State {
-        machine,
-        notes: _notes,
-    } = room?;
-    Some(machine)
 }
