@@ -173,8 +173,10 @@ impl Trail {
         ensures ok { OnOk result (self.new ≡ reached tally self.old to (to - from)) }
         ensures err { OnErr result (self.new ≡ self.old) }
     {
-        let room = self.spare.take();
-        let mut state = copy.restore(self.alloc, room)?;
+        let mut state = match self.spare.take() {
+            Some(room) => copy.restore(self.alloc, room)?,
+            None => copy.to_state(self.alloc)?,
+        };
         self.state.exchange(&mut state);
         let at = mem::replace(&mut self.at, from);
         let gone = self.on_to(to, tally);

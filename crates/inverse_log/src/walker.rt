@@ -286,7 +286,7 @@ impl Walker {
     {
         let len = self.len() as u32;
         let nearest = self.kept.nearest(len);
-        let state = self.kept.state(len).restore(self.alloc, None)?;
+        let state = self.kept.state(len).to_state(self.alloc)?;
         state_after(state, &self.events()[nearest as usize..])
     }
 

@@ -49,16 +49,31 @@ impl Machine {
 }
 
 impl SharedMachine {
+    /// Returns the machine, with storage of its own.
+    pub(crate) fn to_machine(&self, alloc: Global) -> Result<Machine, AllocError>
+        ensures { IfOk result (λ machine. machine ≡ machine_in self.now) }
+    {
+        self.build(alloc, None, Table::new(alloc))
+    }
+
     /// Returns the machine, in the storage of `room` as far as that fits.
-    pub(crate) fn restore(
+    pub(crate) fn restore(&self, alloc: Global, room: Machine) -> Result<Machine, AllocError>
+        ensures { IfOk result (λ machine. machine ≡ machine_in self.now) }
+    {
+        let (world, table) = large_parts(room);
+        self.build(alloc, Some(world), table)
+    }
+
+    // Returns the machine, in the storage of these parts as far as that fits.
+    fn build(
         &self,
         alloc: Global,
-        room: Option<Machine>,
+        world: Option<World>,
+        table: Table,
     ) -> Result<Machine, AllocError>
         ensures { IfOk result (λ machine. machine ≡ machine_in self.now) }
     {
-        let (world, mut table) = rooms_in(alloc, room);
-        table.take(&self.table)?;
+        let table = restore_table(table, &self.table)?;
         Ok(Machine {
             submissions: self.submissions.copy(alloc)?,
             completions: self.completions.copy(alloc)?,
@@ -74,11 +89,15 @@ impl SharedMachine {
     }
 }
 
-// Returns the large parts of a machine, to be written over.
-fn rooms_in(alloc: Global, room: Option<Machine>) -> (Option<World>, Table) {
-    let Some(machine) = room else {
-        return (None, Table::new(alloc));
-    };
+fn restore_table(mut table: Table, copy: &SharedTable) -> Result<Table, AllocError>
+    ensures { IfOk result (λ table. table ≡ copy.now) }
+{
+    table.take(copy)?;
+    Ok(table)
+}
+
+// Takes the large parts of a machine, and drops the others.
+fn large_parts(machine: Machine) -> (World, Table) {
     let Machine {
         submissions: _submissions,
         completions: _completions,
@@ -91,5 +110,5 @@ fn rooms_in(alloc: Global, room: Option<Machine>) -> (Option<World>, Table) {
         clock: _,
         counted: _,
     } = machine;
-    (Some(world), table)
+    (world, table)
 }

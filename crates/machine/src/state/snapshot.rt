@@ -53,12 +53,22 @@ impl State {
 }
 
 impl Snapshot {
-    /// Returns the state that was copied, in the storage of `room` as far as that fits.
-    pub fn restore(&self, alloc: Global, room: Option<State>) -> Result<State, AllocError>
+    /// Returns the state that was copied, with storage of its own.
+    pub fn to_state(&self, alloc: Global) -> Result<State, AllocError>
         ensures { IfOk result (λ state. state ≡ self.now) }
     {
-        let room = room.map(|state| state.into_machine());
-        let machine = self.machine.restore(alloc, room)?;
+        let machine = self.machine.to_machine(alloc)?;
+        Ok(State {
+            machine,
+            notes: Recorder::new(alloc),
+        })
+    }
+
+    /// The same, in the storage of `room` as far as that fits.
+    pub fn restore(&self, alloc: Global, room: State) -> Result<State, AllocError>
+        ensures { IfOk result (λ state. state ≡ self.now) }
+    {
+        let machine = self.machine.restore(alloc, room.into_machine())?;
         Ok(State {
             machine,
             notes: Recorder::new(alloc),
