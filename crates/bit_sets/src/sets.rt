@@ -5,6 +5,7 @@ ghost use Rattle.bit_sets.specs.Sets.{has, IsNextBit, IsNext, NoneFrom};
 
 mod difference;
 
+use crate::pieces::copied;
 use std::alloc::{AllocError, Global};
 use std::marker::Model;
 
@@ -119,7 +120,7 @@ impl BitSet {
         ensures { IfOk result (λ set. set ≡ self.now) }
     {
         Ok(BitSet {
-            words: Vec::from_slice(alloc, &self.words)?,
+            words: copied(alloc, &self.words)?,
             summary: self.summary,
         })
     }

@@ -37,24 +37,11 @@ zero_pushed [] (suc i) = refl
 zero_pushed (x ∷ xs) zero = refl
 zero_pushed (x ∷ xs) (suc i) = zero_pushed xs i
 
--- The finder was copied.
-pub findable_same : (rows : List Row) (f g : Finder) → Findable rows f → g.last ≡ f.last → g.previous ≡ f.previous → g.holding ≡ f.holding → Findable rows g
-findable_same rows f g h last previous holding = record {
-  room = λ l. let p = h.room l in record {
-    last = let n = ap length last in let k = p.last in omega (arith, n, k);
-    previous = let n = ap length previous in let k = p.previous in omega (arith, n, k);
-    holding = let n = ap length holding in let k = p.holding in omega (arith, n, k);
-  };
-  last = λ r row k. let n = ap (λ xs. get_or xs (row_hash row) 0) last in let o = h.last r row k in omega (arith, n, o);
-  previous = λ q r other row a b l e. let n = ap (λ xs. get_or xs r 0) previous in let o = h.previous q r other row a b l e in omega (arith, n, o);
-  holding = λ r fd row k e. ap (λ (w : List ℕ). has w (mark_of fd r)) holding ∙ h.holding r fd row k e;
-}
-
 -- Room for a link was made.
 pub findable_room : (rows : List Row) (f g : Finder) → Findable rows f → g.last ≡ f.last → g.holding ≡ f.holding → g.previous ≡ f.previous ++ 0 ∷ [] → Findable rows g
 findable_room rows f g h last holding previous = record {
   room = λ l. let p = h.room l in record {
-    last = let n = ap (λ v. length v.items) last in let k = p.last in omega (arith, n, k);
+    last = let n = ap length last in let k = p.last in omega (arith, n, k);
     previous = let n = ap length previous ∙ length-pushed f.previous in let k = p.previous in omega (arith, n, k);
     holding = let n = ap length holding in let k = p.holding in omega (arith, n, k);
   };
@@ -89,10 +76,10 @@ findable_push rows row r f g h place n old last previous holding m = record {
 }
   where
     lasts : h.last ≡ set f.last (row_hash row) (r + 1)
-    lasts = ap (λ v. v.items) m.last ∙ last
+    lasts = m.last ∙ last
 
     links : h.previous ≡ set f.previous r (get_or f.last (row_hash row) 0)
-    links = ap (λ v. v.items) m.previous ∙ previous
+    links = m.previous ∙ previous
 
     hashed : row_hash row < length f.last
     hashed = let a = place.last in omega (arith, a)
@@ -145,16 +132,16 @@ was rows r before after g same q x h = by (r == q) refl (sym (slice_get-set rows
 pub findable_set : (rows : List Row) (r : ℕ) (before after : Row) (f g : Finder) → Findable rows f → slice_get rows r ≡ Some before → fixed_of after ≡ fixed_of before → IsMarked r after f g → Findable (slice_set rows r after) g
 findable_set rows r before after f g h there same m = record {
   room = λ l. let n = length-set rows r after in let p = h.room (omega (arith, n, l)) in record {
-    last = let a = ap (λ v. length v.items) m.last in let b = p.last in omega (arith, a, b);
-    previous = let a = ap (λ v. length v.items) m.previous in let b = p.previous in omega (arith, a, b, n);
+    last = let a = ap length m.last in let b = p.last in omega (arith, a, b);
+    previous = let a = ap length m.previous in let b = p.previous in omega (arith, a, b, n);
     holding = let a = m.room in let b = p.holding in omega (arith, a, b);
   };
-  last = λ q x k. let w = was rows r before after there same q x k in let o = h.last q w.row w.there in let e = ap (λ v. get_or v.items (row_hash x) 0) m.last in let s = ap (λ i. get_or f.last i 0) w.hash in omega (arith, o, e, s);
+  last = λ q x k. let w = was rows r before after there same q x k in let o = h.last q w.row w.there in let e = ap (λ xs. get_or xs (row_hash x) 0) m.last in let s = ap (λ i. get_or f.last i 0) w.hash in omega (arith, o, e, s);
   previous = λ q p y x a b l e.
       let v = was rows r before after there same q y a in
       let w = was rows r before after there same p x b in
       let o = h.previous q p v.row w.row v.there w.there l (v.hash ∙ e ∙ sym w.hash) in
-      let k = ap (λ v. get_or v.items p 0) m.previous in
+      let k = ap (λ xs. get_or xs p 0) m.previous in
       omega (arith, o, k);
   holding = λ q fd x k e. by q fd x (r == q) refl (sym (slice_get-set rows r q after (slice_get_within rows r before there)) ∙ k) e;
 }
@@ -176,7 +163,7 @@ pub findable_pop : (rows : List Row) (r : ℕ) (row : Row) (f g : Finder) → r 
 findable_pop rows r row f g n there h last previous holding = record {
   room = λ l. record {
     last = let a = ap length last ∙ length-set f.last (row_hash row) (get_or f.previous r 0) in let b = place.last in omega (arith, a, b);
-    previous = let a = ap (λ v. length v.items) previous in let b = place.previous in let c = length-take r rows in let d = length-take (r + 1) rows in omega (arith, a, b, c, d, n);
+    previous = let a = ap length previous in let b = place.previous in let c = length-take r rows in let d = length-take (r + 1) rows in omega (arith, a, b, c, d, n);
     holding = let a = ap length holding in let b = place.holding in omega (arith, a, b);
   };
   last = λ q x k. let t = taken rows r q x k in last_at q x t.0 t.1;
@@ -184,7 +171,7 @@ findable_pop rows r row f g n there h last previous holding = record {
       let s = taken rows r q y a in
       let t = taken rows r p x b in
       let o = h.previous q p y x s.1 t.1 l e in
-      let k = ap (λ v. get_or v.items p 0) previous in
+      let k = ap (λ xs. get_or xs p 0) previous in
       omega (arith, o, k);
   holding = λ q fd x k e. let t = taken rows r q x k in ap (λ (w : List ℕ). has w (mark_of fd q)) holding ∙ h.holding q fd x t.1 e;
 }

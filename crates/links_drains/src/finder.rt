@@ -58,7 +58,8 @@ impl Finder {
 
     /// Makes room for one more request.
     pub(crate) fn make_room(&mut self, rows: &Rows) -> Result<(), AllocError>
-        requires { Findable rows.now self.old }
+        requires findable { Findable rows.now self.old }
+        requires few { length rows.now < 65536 }
         ensures ok { OnOk result (HasPlace (length rows.now + 1) self.new) }
         ensures findable { Findable rows.now self.new }
     {
@@ -66,7 +67,8 @@ impl Finder {
         if rows.len() < self.previous.len() {
             return Ok(());
         }
-        self.previous.push(0)
+        self.previous.push(0)?;
+        Ok(())
     }
 
     // Makes room for all hashes and marks, if the table is empty.

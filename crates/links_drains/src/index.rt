@@ -1,7 +1,8 @@
 //! An index of the request table: which requests may be issued, and which TIMEOUTs have
 //! reached their count, without a scan of all requests.
-ghost use Rattle.std.specs.Prelude.{◌≡◌, ℕ, ◌+◌, ◌-◌, ◌^◌, ◌<◌, ◌≤◌, [], true, Some, IfOk, IfSome, IfNone, OnOk, MatchBool, length, slice_get, take};
+ghost use Rattle.std.specs.Prelude.{◌≡◌, ℕ, ◌+◌, ◌-◌, ◌^◌, ◌<◌, ◌≤◌, List, [], true, Some, IfOk, IfSome, IfNone, OnOk, MatchBool, length, slice_get, take};
 ghost use Rattle.entries.specs.declared.row.Row.{Row};
+ghost use Rattle.links_drains.specs.Counts.{has_count as has_count_of};
 ghost use Rattle.links_drains.specs.Eligible.{is_eligible, GuardsFollow};
 ghost use Rattle.links_drains.specs.Links.{has_drain_flag as has_drain, Chained};
 ghost use Rattle.bit_sets.specs.Sets.{has, IsNext, NoneFrom};
@@ -10,10 +11,13 @@ ghost use Rattle.links_drains.specs.Units.{passes_at, is_open, is_barrier as is_
 
 mod queued;
 
-use crate::links::{has_drain_flag, is_guard, is_issued, is_queued, is_unfinished, threshold_of};
+use crate::links::{
+    has_count, has_drain_flag, is_guard, is_issued, is_queued, is_unfinished, threshold_of,
+};
 use crate::table::Rows;
 use bit_sets::BitSet;
 use bit_sets::thresholds::{NEVER, Thresholds};
+use entries::Row;
 use std::alloc::{AllocError, Global};
 
 /// Sets of request numbers, stored as bitmaps, and the thresholds of TIMEOUTs.
@@ -48,18 +52,24 @@ impl Index {
         }
     }
 
-    /// Makes room for one more request.
-    pub(crate) fn make_room(&mut self, rows: &Rows) -> Result<(), AllocError>
+    /// Makes room for one more request. Thresholds are allocated with the first TIMEOUT that has a
+    /// count.
+    pub(crate) fn make_room(&mut self, rows: &Rows, row: &Row) -> Result<(), AllocError>
         requires indexed { Indexed rows.now self.old }
         requires few { length rows.now < 65536 }
         ensures ok { OnOk result (HasRoom (length rows.now + 1) self.new) }
+        ensures counted { OnOk result (has_count_of row.now ≡ true
+            → length rows.now < length self.new.thresholds) }
         ensures indexed { Indexed rows.now self.new }
     {
         self.unfinished.make_room(rows.len())?;
         self.flagged.make_room(rows.len())?;
         self.barriers.make_room(rows.len())?;
         self.issued.make_room(rows.len())?;
-        self.thresholds.make_room(rows.len())
+        if has_count(row) {
+            self.thresholds.make_room(rows.len())?;
+        }
+        Ok(())
     }
 
     /// Updates the index for request r, which is new, has changed within its chain, or is now the
@@ -81,16 +91,15 @@ impl Index {
     /// Drops the requests after those that are left, up to number n, in time linear in how many they
     /// are.
     pub(crate) fn cut(&mut self, rows: &Rows, n: usize)
-        ghost before: { List Row }
-        requires indexed { Indexed before self.old }
-        requires len { length before ≡ n }
-        requires left { rows.now ≡ take (length rows.now) before }
+        requires cut { (before : List Row) × Indexed before self.old × (length before ≡ n)
+            × (rows.now ≡ take (length rows.now) before) }
         requires within { length rows.now ≤ n }
         ensures { Indexed rows.now self.new }
     {
-        self.forget(rows.len(), n);
-        if !rows.is_empty() {
-            self.update(rows, rows.len() - 1);
+        let left = rows.len();
+        self.forget(left, n);
+        if left > 0 {
+            self.update(rows, left - 1);
         }
     }
 

@@ -256,7 +256,7 @@ impl Table {
         ensures others { notes.old.others ≤ notes.new.others + 1 }
     {
         let r = self.rows.len();
-        self.index.make_room(&self.rows)?;
+        self.index.make_room(&self.rows, &row)?;
         self.finder.make_room(&self.rows)?;
         notes.note_row(r as u32, None)?;
         self.rows.push(row)?;
@@ -345,12 +345,12 @@ impl Table {
     pub fn truncate(&mut self, n: usize)
         ensures { self.new ≡ take n self.old }
     {
-        if n < self.rows.len() {
-            let len = self.rows.len();
+        let count = self.rows.len();
+        if n < count {
             take_all_off(&mut self.held, &self.rows, n);
             self.finder.cut(&self.rows, n);
             self.rows.truncate(n);
-            self.index.cut(&self.rows, len);
+            self.index.cut(&self.rows, count);
         }
     }
 

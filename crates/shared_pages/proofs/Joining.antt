@@ -1,12 +1,13 @@
 -- Lists in pages of one size: where an element is, and what changes one.
-use Rattle.std.proofs.Common.{◌≡◌, ℕ, zero, suc, refl, sym, ◌∙◌, ap, List, [], ◌∷◌, ◌++◌, length, take, drop, set, get_or, min, ◌+◌, ◌-◌, ◌*◌, ◌/◌, ◌%◌, ◌<◌, ◌≤◌, ◌⊎◌, inl, inr, arith}
-use Rattle.std.specs.Prelude.{Some, slice_get}
-use Rattle.std.proofs.lemmas.List.{get_or_append_left, get_or-append-add, set-append_left, set-append_right, take-append-le, take-take, length-take-le, length-append, length-set, get_or-take, take_all, get_or-set_same, get_or-set_other, append_assoc, take_more_set}
-use Rattle.std.proofs.Math.Seq.{take-append-add, take-set-lt}
+use Rattle.std.proofs.Common.{◌≡◌, ℕ, zero, suc, refl, sym, ◌∙◌, ap, List, [], ◌∷◌, ◌++◌, length, map, take, drop, set, get_or, ◌+◌, ◌-◌, ◌*◌, ◌/◌, ◌%◌, ◌<◌, ◌≤◌, inl, inr, add-one, arith}
+use Rattle.std.specs.Prelude.{Some, option_map, slice_get}
+use Rattle.std.proofs.lemmas.List.{get_or_append_left, get_or-append-add, set-append_left, set-append_right, take-append-le, take-take, length-take-le, length-drop, length-append, take_at, length-set, get_or-take, take_all, append_assoc, take_more_set}
+use Rattle.std.proofs.Math.Seq.{take-add, take-append-add, take-set-lt}
+use Rattle.std.proofs.lemmas.Slice.{drop-append-drop}
 use Rattle.std.proofs.Math.Nat.{mul-le-mul_left}
 use Rattle.std.proofs.lemmas.Bool.{cases_lt}
-use Rattle.std.proofs.lemmas.Option.{slice_get_within, slice_get-get_or, get_or_from_slice_get, slice_get_read}
-use Rattle.shared_pages.specs.Lists.{joined, elements, IsPaged, IsPrepared}
+use Rattle.std.proofs.lemmas.Option.{slice_get-map, slice_get_read}
+use Rattle.shared_pages.specs.Lists.{joined, elements, Extends, IsPaged}
 
 -- Each page has n elements.
 abbrev pub Full : {T : Type 0} → ℕ → List (List T) → Type 0
@@ -193,31 +194,103 @@ paged_take n len k pages h there within = record {
     full_take n (first ∷ pages) (suc k) full zero p there = full 0 p there
     full_take n (first ∷ pages) (suc k) full (suc i) p there = full_take n pages k (λ j q h. full (suc j) q h) i p there
 
+full_take : {T : Type 0} (n : ℕ) (pages : List (List T)) (k : ℕ) → Full n pages → Full n (take k pages)
+full_take n [] zero full i p there = absurd cc
+full_take n [] (suc k) full i p there = absurd cc
+full_take n (first ∷ pages) zero full i p there = absurd cc
+full_take n (first ∷ pages) (suc k) full zero p there = full 0 p there
+full_take n (first ∷ pages) (suc k) full (suc i) p there = full_take n pages k (λ j q h. full (suc j) q h) i p there
+
+full_drop : {T : Type 0} (n k : ℕ) (own : List (List T)) → Full n own → Full n (drop k own)
+full_drop n zero [] full i p there = absurd cc
+full_drop n (suc k) [] full i p there = absurd cc
+full_drop n zero (page ∷ own) full i p there = full i p there
+full_drop n (suc k) (page ∷ own) full i p there = full_drop n k own (λ j q h. full (suc j) q h) i p there
+
+full_both : {T : Type 0} (n : ℕ) (own other : List (List T)) → Full n own → Full n other → Full n (other ++ own)
+full_both n own [] full rest i p there = full i p there
+full_both n own (page ∷ other) full rest zero p there = rest 0 p there
+full_both n own (page ∷ other) full rest (suc i) p there = full_both n own other full (λ j q h. rest (suc j) q h) i p there
+
 -- The pages of one list, over those of another.
 pub paged_over : {T : Type 0} (n len m k : ℕ) (own other : List (List T)) → IsPaged n len own → IsPaged n m other → IsPaged n m (other ++ drop k own)
 paged_over n len m k own other h o = record {
   positive = h.positive;
-  full = full_over n k own other h.full o.full;
+  full = full_both n (drop k own) other (full_drop n k own h.full) o.full;
   within = let w = o.within in let l = length-append other (drop k own) in let most = mul-le-mul_left n (le_more (length other) (length (drop k own))) in omega (arith, w, most, ap (λ c. n * c) l);
 }
   where
     le_more : (a b : ℕ) → a ≤ a + b
     le_more a b = omega arith
 
-    full_drop : {T : Type 0} (n k : ℕ) (own : List (List T)) → Full n own → Full n (drop k own)
-    full_drop n zero [] full i p there = absurd cc
-    full_drop n (suc k) [] full i p there = absurd cc
-    full_drop n zero (page ∷ own) full i p there = full i p there
-    full_drop n (suc k) (page ∷ own) full i p there = full_drop n k own (λ j q h. full (suc j) q h) i p there
+-- ---- Pages are added
 
-    full_over : {T : Type 0} (n k : ℕ) (own other : List (List T)) → Full n own → Full n other → Full n (other ++ drop k own)
-    full_over n k own [] full rest i p there = full_drop n k own full i p there
-    full_over n k own (page ∷ other) full rest zero p there = rest 0 p there
-    full_over n k own (page ∷ other) full rest (suc i) p there = full_over n k own other full (λ j q h. rest (suc j) q h) i p there
+pub extends_none : {T : Type 0} (others pages : List (List T)) → Extends others pages pages
+extends_none others pages n len m h o = (h, refl)
 
--- A page is replaced, from the last to the first.
-pub set_back : {X : Type 0} (old goal : List X) (j : ℕ) (x : X) → j < length old → j < length goal → x ≡ get_or goal j x → set (take (suc j) old ++ drop (suc j) goal) j x ≡ take j old ++ drop j goal
-set_back [] goal j x a b e = absurd (omega (arith, a))
-set_back (o ∷ old) [] j x a b e = absurd (omega (arith, b))
-set_back (o ∷ old) (p ∷ goal) zero x a b e = ap (λ y. y ∷ goal) e
-set_back (o ∷ old) (p ∷ goal) (suc j) x a b e = ap (λ ys. o ∷ ys) (set_back old goal j x (omega (arith, a)) (omega (arith, b)) e)
+pub extends_page : {T : Type 0} (others old new : List (List T)) (k : ℕ) (page : List T) → Extends others old new → slice_get others k ≡ Some page → Extends others old (new ++ page ∷ [])
+extends_page others old new k page e there n len m h o =
+    let f = e n len m h o in
+    (paged_append n len new page f.0 (o.full k page there), elements-append n len new (page ∷ []) f.0 ∙ f.1)
+
+-- ---- Pages are lent, one after the other
+
+set_next : {X : Type 0} (next own : List X) (k : ℕ) (x : X) → k < length own → slice_get next k ≡ Some x → set (take k next ++ drop k own) k x ≡ take (suc k) next ++ drop (suc k) own
+set_next [] own k x within there = absurd cc
+set_next (y ∷ next) [] k x within there = absurd (omega (arith, within))
+set_next (y ∷ next) (o ∷ own) zero x within there = let same : y ≡ x = cc in ap (λ z. z ∷ own) (sym same)
+set_next (y ∷ next) (o ∷ own) (suc k) x within there = ap (λ zs. y ∷ zs) (set_next next own k x (omega (arith, within)) there)
+
+-- The pages after the first k were lent.
+abbrev pub lent_to : {X : Type 0} → ℕ → List X → List X → List X
+lent_to k next own = take k next ++ drop k own
+
+pub lent_none : {X : Type 0} (next own : List X) → own ≡ lent_to 0 next own
+lent_none [] [] = refl
+lent_none [] (o ∷ own) = refl
+lent_none (y ∷ next) [] = refl
+lent_none (y ∷ next) (o ∷ own) = refl
+
+pub lent_page : {X : Type 0} (pages next own : List X) (k : ℕ) (x : X) → pages ≡ lent_to k next own → k < length own → slice_get next k ≡ Some x → set pages k x ≡ lent_to (k + 1) next own
+lent_page pages next own k x e within there = rw (e, add-one) (set_next next own k x within there)
+
+-- There are as many pages as before.
+pub lent_length : {X : Type 0} (next own : List X) (k : ℕ) → k ≤ length next → k ≤ length own → length (lent_to k next own) ≡ length own
+lent_length next own k a b =
+    let c = length-append (take k next) (drop k own) in
+    let d = length-take-le k next a in
+    let e = length-drop k own in
+    omega (arith, b, c, d, e)
+
+-- Each page has the size of the one that replaces it.
+pub lent_size : {T : Type 0} (pages next own : List (List T)) (n len m k : ℕ) (page shown : List T) → pages ≡ lent_to k next own → IsPaged n len own → IsPaged n m next → k < length next → k < length own → page ≡ get_or pages k page
+    → slice_get next k ≡ Some shown → length page ≡ length shown
+lent_size pages next own n len m k page shown e h o a b read there =
+    let full : Full n pages = rw e (full_both n (drop k own) (take k next) (full_drop n k own h.full) (full_take n next k o.full)) in
+    let all = ap length e ∙ lent_length next own k (omega (arith, a)) (omega (arith, b)) in
+    full k page (slice_get_read pages (length pages) k page refl (omega (arith, all, b)) read) ∙ sym (o.full k shown there)
+
+-- All pages were lent.
+pub lent_all : {X : Type 0} (pages next own : List X) (k : ℕ) → pages ≡ lent_to k next own → k ≡ length next → pages ≡ next ++ drop (length next) own
+lent_all pages next own k e same = rw same at e ∙ ap (λ xs. xs ++ drop (length next) own) (take_all (length next) next (omega arith))
+
+-- ---- Pages are copied
+
+pub there_in : {A B : Type 0} (f : A → B) (xs : List A) (k : ℕ) (x : A) (y : B) → k < length xs → x ≡ get_or xs k x → y ≡ f x → slice_get (map f xs) k ≡ Some y
+there_in f xs k x y within read same = slice_get-map f xs k ∙ ap (option_map f) (slice_get_read xs (length xs) k x refl within read) ∙ ap Some (sym same)
+
+-- One more piece is copied over the elements.
+pub overwritten : {X : Type 0} (old own others new : List X) (at n : ℕ) → own ≡ take at others ++ drop at old → at + n ≤ length others
+    → new ≡ take at own ++ (take (at + n - at) (drop at others) ++ drop (at + length (take (at + n - at) (drop at others))) own) → new ≡ take (at + n) others ++ drop (at + n) old
+overwritten old own others new at n e h g =
+    let less : at + n - at ≡ n = omega arith in
+    let one = length-take-le at others (omega (arith, h)) in
+    let rest = length-drop at others in
+    let two = length-take-le n (drop at others) (omega (arith, h, rest)) in
+    let front = ap (take at) e ∙ take_at (take at others) (drop at old) at one in
+    let back = ap (drop (at + n)) e ∙ drop-append-drop at old (take at others) (at + n) (omega arith) one in
+    rw (less, two) at g
+    ∙ ap (λ xs. xs ++ (take n (drop at others) ++ drop (at + n) own)) front
+    ∙ ap (λ xs. take at others ++ (take n (drop at others) ++ xs)) back
+    ∙ sym (append_assoc (take at others) (take n (drop at others)) (drop (at + n) old))
+    ∙ ap (λ xs. xs ++ drop (at + n) old) (sym (take-add at n others))

@@ -16,9 +16,8 @@ pub record IsPaged {T : Type 0} (n len : ℕ) (pages : List (List T)) : Type 0 w
   pub full : (k : ℕ) (page : List T) → slice_get pages k ≡ Some page → length page ≡ n
   pub within : len ≤ n * length pages
 
--- The pages hold `len` elements, and there is one for each of the `next` pages, with `next_len`
--- elements.
-pub record IsPrepared {T : Type 0} (n len : ℕ) (pages : List (List T)) (next_len : ℕ) (next : List (List T)) : Type 0 where
-  pub own : IsPaged n len pages
-  pub other : IsPaged n next_len next
-  pub room : length next ≤ length pages
+-- Pages were added that have the size of the others, which changes no element.
+abbrev pub Extends : {T : Type 0} → List (List T) → List (List T) → List (List T) → Type 0
+Extends {T} others old new =
+    (n len m : ℕ) → IsPaged n len old → IsPaged n m others
+    → IsPaged n len new × (elements len new ≡ elements len old)

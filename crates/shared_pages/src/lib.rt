@@ -3,8 +3,9 @@
 
 pub mod list;
 pub mod page;
+mod pieces;
 pub mod shared;
 
 pub use list::PagedList;
 pub use page::Page;
-pub use shared::{Prepared, SharedList};
+pub use shared::SharedList;

@@ -61,6 +61,7 @@ impl<T: Copy, const N: usize> PagedList<T, N> {
     }
 
     /// Returns an element, if it is there.
+    #[inline]
     pub fn get(&self, i: usize) -> Option<&T>
         ensures { option_copied result ≡ slice_get self.now i }
     {
@@ -68,6 +69,7 @@ impl<T: Copy, const N: usize> PagedList<T, N> {
     }
 
     /// Assigns an element. Allocates nothing.
+    #[inline]
     pub fn set(&mut self, i: usize, element: T)
         requires { i < length self.old }
         ensures { self.new ≡ slice_set self.old i element }
@@ -115,7 +117,7 @@ impl<T: Copy, const N: usize> PagedList<T, N> {
     {
         let mut pages = Vec::with_capacity(alloc, self.pages.len())?;
         for page in &self.pages {
-            pages.push(Page::new(Vec::from_slice(alloc, page.as_slice())?))?;
+            pages.push(page.copy(alloc)?)?;
         }
         Ok(PagedList {
             pages,
@@ -144,6 +146,7 @@ impl<T: Copy, const N: usize> Index<usize> for PagedList<T, N> {
 
     ghost index_gives = { λ v i x. x ≡ slice_index_or v i x };
 
+    #[inline]
     fn index(&self, i: usize) -> &T
         requires { i < length self.now }
         ensures { result.now ≡ slice_index_or self.now i result.now }

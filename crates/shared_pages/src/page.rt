@@ -2,6 +2,7 @@
 ghost use Rattle.std.specs.Prelude.{◌≡◌, ◌<◌, ◌≤◌, ◌+◌, ◌++◌, length, take, drop, slice_set, IfOk, option_map};
 ghost use Rattle.shared_pages.specs.Pages.{shown, IsWhole};
 
+use crate::pieces::{copied, copy_over};
 use std::alloc::{AllocError, Global};
 use std::marker::Model;
 use std::sync::Arc;
@@ -50,13 +51,16 @@ impl<T: Copy> Page<T> {
     }
 
     /// Returns the elements.
+    #[inline]
     pub fn as_slice(&self) -> &[T]
         ensures { result.now ≡ self.now }
     {
-        match &self.shared {
-            Some(shared) if self.is_lent => shared.as_slice(),
-            _ => &self.own,
+        if self.is_lent {
+            if let Some(shared) = &self.shared {
+                return shared.as_slice();
+            }
         }
+        &self.own
     }
 
     /// Replaces the contents with a shared copy. Allocates nothing.
@@ -69,6 +73,7 @@ impl<T: Copy> Page<T> {
     }
 
     /// Assigns an element. Allocates nothing.
+    #[inline]
     pub fn set(&mut self, at: usize, element: T)
         requires { at < length self.old }
         ensures { self.new ≡ slice_set self.old at element }
@@ -96,7 +101,7 @@ impl<T: Copy> Page<T> {
     pub fn copy(&self, alloc: Global) -> Result<Page<T>, AllocError>
         ensures { IfOk result (λ page. page ≡ self.now) }
     {
-        Ok(Page::new(Vec::from_slice(alloc, self.as_slice())?))
+        Ok(Page::new(copied(alloc, self.as_slice())?))
     }
 
     /// Returns a copy that shares the contents. Copies them only if they were written since the
@@ -108,8 +113,8 @@ impl<T: Copy> Page<T> {
         if let Some(shared) = &self.shared {
             return Arc::try_clone(shared);
         }
-        let copied = Vec::from_slice(alloc, &self.own)?;
-        let Ok(shared) = Arc::new(alloc, copied) else {
+        let copy = copied(alloc, &self.own)?;
+        let Ok(shared) = Arc::new(alloc, copy) else {
             return Err(AllocError);
         };
         let theirs = Arc::try_clone(&shared)?;
@@ -131,7 +136,7 @@ impl<T: Copy> Page<T> {
                 page.lend(Arc::try_clone(shared)?);
                 Ok(page)
             }
-            _ => Ok(Page::new(Vec::from_slice(alloc, shared.as_slice())?)),
+            _ => Ok(Page::new(copied(alloc, shared.as_slice())?)),
         }
     }
 }
@@ -145,6 +150,6 @@ fn fill<T: Copy>(own: &mut Vec<T>, is_lent: bool, shared: &Option<Arc<Vec<T>>>)
         return;
     }
     if let Some(shared) = shared {
-        own.copy_from_slice(shared.as_slice());
+        copy_over(own, shared.as_slice());
     }
 }

@@ -1,4 +1,4 @@
-use Rattle.std.proofs.Common.{◌∙◌, ◌<◌, ◌≤◌, length}
+use Rattle.std.proofs.Common.{◌<◌, ◌≤◌, length}
 use Rattle.model_files.specs.Pipes.{PipeState}
 use Rattle.model_files.proofs.Wrapping.{pushed_is}
 use Rattle.model_files.proofs.pipe.PipeBuffer.push.Goals as goal

@@ -1,4 +1,4 @@
-use Rattle.std.proofs.Common.{◌∙◌, ap, set, length, ◌/◌, arith}
+use Rattle.std.proofs.Common.{◌∙◌, ap, set, length, ◌/◌}
 use Rattle.std.proofs.lemmas.List.{length-set}
 use Rattle.shared_pages.specs.Lists.{elements}
 use Rattle.shared_pages.proofs.Joining.{page_of, page_within, paged_set, set-elements, within_list}
