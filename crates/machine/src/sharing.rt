@@ -53,7 +53,7 @@ impl SharedMachine {
     pub(crate) fn to_machine(&self, alloc: Global) -> Result<Machine, AllocError>
         ensures { IfOk result (λ machine. machine ≡ machine_in self.now) }
     {
-        self.build(alloc, None, Table::new(alloc))
+        self.build(alloc, None, None)
     }
 
     /// Returns the machine, in the storage of `room` as far as that fits.
@@ -61,7 +61,7 @@ impl SharedMachine {
         ensures { IfOk result (λ machine. machine ≡ machine_in self.now) }
     {
         let (world, table) = large_parts(room);
-        self.build(alloc, Some(world), table)
+        self.build(alloc, Some(world), Some(table))
     }
 
     // Returns the machine, in the storage of these parts as far as that fits.
@@ -69,17 +69,16 @@ impl SharedMachine {
         &self,
         alloc: Global,
         world: Option<World>,
-        table: Table,
+        table: Option<Table>,
     ) -> Result<Machine, AllocError>
         ensures { IfOk result (λ machine. machine ≡ machine_in self.now) }
     {
-        let table = restore_table(table, &self.table)?;
         Ok(Machine {
             submissions: self.submissions.copy(alloc)?,
             completions: self.completions.copy(alloc)?,
             backlog: self.backlog.copy(alloc)?,
             world: self.world.restore(alloc, world)?,
-            table,
+            table: self.table.restore(alloc, table)?,
             poller: self.poller,
             submit_all: self.submit_all,
             threads: self.threads.copy(alloc)?,
@@ -87,13 +86,6 @@ impl SharedMachine {
             counted: self.counted,
         })
     }
-}
-
-fn restore_table(mut table: Table, copy: &SharedTable) -> Result<Table, AllocError>
-    ensures { IfOk result (λ table. table ≡ copy.now) }
-{
-    table.take(copy)?;
-    Ok(table)
 }
 
 // Takes the large parts of a machine, and drops the others.
