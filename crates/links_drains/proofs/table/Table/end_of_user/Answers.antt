@@ -1,4 +1,4 @@
-use Rattle.std.proofs.Common.{ap, length, arith}
+use Rattle.std.proofs.Common.{arith}
 use Rattle.links_drains.proofs.table.Table.end_of_user.Goals as goal
 
 pub overflow_cast-result : goal.overflow_cast-result

@@ -1,8 +1,10 @@
-use Rattle.std.proofs.Common.{◌≡◌, refl, sym, ◌∙◌, ap, length, [], ◌∷◌, ◌++◌, arith}
+use Rattle.std.proofs.Common.{◌≡◌, refl, sym, ap, length, arith}
 use Rattle.std.specs.Prelude.{None, option_map, slice_get}
 use Rattle.std.proofs.lemmas.Option.{slice_get_past}
 use Rattle.places.specs.declared.value.Value.TheVariants.{Requested}
+use Rattle.places.specs.declared.place.Place.TheVariants.{Request}
 use Rattle.places.proofs.Keeping.{keeps_noted, keeps_unchanged}
+use Rattle.links_drains.specs.Rows.{table_owns, table_seen}
 use Rattle.links_drains.proofs.Indexing.{indexed_push}
 use Rattle.links_drains.proofs.RowsKept.{get-pushed}
 use Rattle.links_drains.proofs.Seen.{seen_push}
@@ -44,4 +46,4 @@ pub returns-in_err-push-clause-keeps : goal.returns-in_err-push-clause-keeps
 returns-in_err-push-clause-keeps c =
     let absent : option_map Requested (slice_get c.self.inside.rows (length c.self.inside.rows)) ≡ None = ap (option_map Requested) (slice_get_past c.self.inside.rows (length c.self.inside.rows) (omega arith)) in
     let noted = rw c.len-r.ensures at c.in_ok-note_row.ensures.ok in
-    rw (← c.self.view_is, c.in_err-push.ensures.err) (keeps_unchanged _ _ _ _ _ refl (rw absent noted))
+    rw (← c.self.view_is, c.in_err-push.ensures.err) (keeps_unchanged table_owns (table_seen c.self.inside.rows) c.args.notes.now.made c.note_row.new.self.made (Request (length c.self.inside.rows)) refl (rw absent noted))

@@ -1,5 +1,3 @@
-use Rattle.std.proofs.Common.{◌≡◌, sym, ap, length, take, arith}
-use Rattle.std.proofs.lemmas.List.{length-take-le}
 use Rattle.links_drains.proofs.Tallying.{counts_dropped, tallied_cut}
 use Rattle.links_drains.proofs.table.Table.truncate.Goals as goal
 
