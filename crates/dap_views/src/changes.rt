@@ -1,13 +1,13 @@
 //! What the event before the position changed.
-ghost use Rattle.std.specs.Prelude.{◌≡◌, ◌<◌, IfOk, length, map};
-ghost use Rattle.run_log.specs.Lines.{rows};
+ghost use Rattle.std.specs.Prelude.{◌≡◌, ◌<◌, ◌++◌, IfOk, OnOk, length, map};
+ghost use Rattle.run_log.specs.Lines.{news_text, olds_text, rows};
 ghost use Rattle.dap_views.specs.Variables.{ListsChanges, row_variable};
 
 use crate::variable::{Variable, plain_variable};
 use inverse_log::Walker;
 use machine::Setup;
 use places::Items;
-use run_log::{Changed, changes_of, first_row, row_place, row_values};
+use run_log::{Changed, changes_of, first_row, row_place, value_shown};
 use std::alloc::{AllocError, Global};
 use stops::record_of;
 
@@ -36,6 +36,24 @@ pub(crate) fn rows_of(alloc: Global, changes: &[Changed]) -> Result<Vec<&[Change
     Ok(list)
 }
 
+fn put_olds(alloc: Global, out: &mut Vec<u8>, row: &[Changed]) -> Result<(), AllocError>
+    ensures { OnOk result (out.new.items ≡ out.old.items ++ olds_text row.now) }
+{
+    for changed in row {
+        out.extend_from_slice(&value_shown(alloc, changed.old)?)?;
+    }
+    Ok(())
+}
+
+fn put_news(alloc: Global, out: &mut Vec<u8>, row: &[Changed]) -> Result<(), AllocError>
+    ensures { OnOk result (out.new.items ≡ out.old.items ++ news_text row.now) }
+{
+    for changed in row {
+        out.extend_from_slice(&value_shown(alloc, changed.new)?)?;
+    }
+    Ok(())
+}
+
 /// Returns the variable of a line: its place, and its old and new values.
 pub(crate) fn row_variable(
     alloc: Global,
@@ -46,6 +64,9 @@ pub(crate) fn row_variable(
     ensures { IfOk result (λ v. v ≡ row_variable setup.now row.now) }
 {
     let name = row_place(alloc, setup, row)?;
-    let value = row_values(alloc, row)?;
+    let mut value = Vec::new(alloc);
+    put_olds(alloc, &mut value, row)?;
+    value.extend_from_slice(b" -> ")?;
+    put_news(alloc, &mut value, row)?;
     Ok(plain_variable(Items::from_vec(name), Items::from_vec(value)))
 }

@@ -10,6 +10,6 @@ mod range;
 
 pub use changed::{Changed, changes_of};
 pub use joining::first_row;
-pub use line::{change_lines, row_place, row_values, value_shown};
+pub use line::{change_lines, row_place, value_shown};
 pub use logging::{log_events, log_run};
 pub use range::EventRange;

@@ -82,18 +82,6 @@ pub fn row_place(alloc: Global, setup: &Setup, row: &[Changed]) -> Result<Vec<u8
     Ok(out)
 }
 
-/// Returns the old and the new values of a line, such as `0000 -> 6869`.
-pub fn row_values(alloc: Global, row: &[Changed]) -> Result<Vec<u8>, AllocError>
-    ensures { IfOk result (λ text. text.items
-        ≡ olds_text row.now ++ (codes " -> " ++ news_text row.now)) }
-{
-    let mut out = Vec::new(alloc);
-    put_olds(alloc, &mut out, row)?;
-    out.extend_from_slice(b" -> ")?;
-    put_news(alloc, &mut out, row)?;
-    Ok(out)
-}
-
 // Writes the old and the new values of a line.
 fn put_values(alloc: Global, out: &mut Vec<u8>, row: &[Changed]) -> Result<(), AllocError>
     ensures { OnOk result (out.new.items ≡ out.old.items ++ values_text row.now) }
