@@ -7,7 +7,6 @@ use crate::lines::{Located, MOST_LINES};
 use crate::members::{Members, object_of};
 use crate::refusal::{Reason, Refusal};
 use crate::verdicts::add_range;
-use base64::engine::Engine;
 use base64::engine::general_purpose::STANDARD;
 use dap_messages::{
     BreakpointLocationsArguments, DisassembleArguments, GotoTargetsArguments, ReadMemoryArguments,
