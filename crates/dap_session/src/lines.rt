@@ -22,7 +22,7 @@ pub(crate) struct Wish {
     pub(crate) column: Option<usize>,
 }
 
-fn located(site: Site, item: Item) -> Located {
+fn placed(site: Site, item: Item) -> Located {
     Located {
         site,
         start: item.start,
@@ -86,7 +86,7 @@ impl Wish {
     fn best_event(self, items: &[Item], best: Option<Located>) -> Option<Located> {
         let mut best = best;
         for (index, item) in items.iter().enumerate() {
-            best = self.better(located(Site::Event(index), *item), best);
+            best = self.better(placed(Site::Event(index), *item), best);
         }
         best
     }
@@ -100,7 +100,7 @@ impl Wish {
         let mut best = best;
         let mut index: u32 = 0;
         for item in items {
-            best = self.better(located(Site::Instruction(thread, index), *item), best);
+            best = self.better(placed(Site::Instruction(thread, index), *item), best);
             index = index.saturating_add(1);
         }
         best
@@ -153,7 +153,7 @@ fn add_instructions(
 ) -> Result<(), AllocError> {
     let mut index: u32 = 0;
     for item in items {
-        add(list, located(Site::Instruction(thread, index), *item), first, last)?;
+        add(list, placed(Site::Instruction(thread, index), *item), first, last)?;
         index = index.saturating_add(1);
     }
     Ok(())
@@ -173,7 +173,7 @@ pub(crate) fn items_between(
         thread = thread.saturating_add(1);
     }
     for (index, item) in map.schedule.as_slice().iter().enumerate() {
-        add(&mut list, located(Site::Event(index), *item), first, last)?;
+        add(&mut list, placed(Site::Event(index), *item), first, last)?;
     }
     Ok(list)
 }

@@ -6,7 +6,7 @@ use crate::members::{Members, object_of};
 use crate::refusal::{Reason, Refusal};
 use dap_messages::{DataBreakpointInfoArguments, StackTraceArguments, VariablesArguments};
 use dap_views::{
-    Container, Page, container_of, evaluate, evaluate_body, frame, frame_value, place_named, scopes_body,
+    Container, Page, container_of, evaluate, evaluate_body, frame_of, frame_value, place_named, scopes_body,
     stack_body, threads_body, variables, variables_body,
 };
 use machine::Event;
@@ -75,9 +75,9 @@ impl Debuggee {
     }
 
     // Returns the frame of a thread.
-    fn frame_of(&self, thread: EditorThread) -> Result<Value, AllocError> {
+    fn frame(&self, thread: EditorThread) -> Result<Value, AllocError> {
         let walker = self.walker();
-        let frame = frame(self.alloc, walker, thread, self.map.as_ref())?;
+        let frame = frame_of(self.alloc, walker, thread, self.map.as_ref())?;
         let source = if self.has_source() {
             Some(self.source_value()?)
         } else {
@@ -89,7 +89,7 @@ impl Debuggee {
     pub(crate) fn stack_trace(&self, arguments: StackTraceArguments) -> Result<Reply, Refusal> {
         let thread = self.thread(arguments.thread)?;
         let frame = if arguments.start == 0 {
-            Some(self.frame_of(thread)?)
+            Some(self.frame(thread)?)
         } else {
             None
         };
