@@ -1,4 +1,9 @@
 //! The state of a debug adapter, and its answers to messages.
+ghost use Rattle.std.specs.Prelude.{◌≡◌, IfOk, OnOk, OnErr, None, Ok, MatchResult, option_map};
+ghost use Rattle.dap_session.specs.Adapters.{Handles, IsRestarted, Launches, RunReplies, configured, with_run};
+ghost use Rattle.dap_session.specs.Moves.{started};
+ghost use Rattle.dap_session.specs.Owing.{Settles, answered, asked_in, outcome_in, outcome_of, owed_by};
+ghost use Rattle.dap_session.specs.Runs.{walk_of};
 
 use crate::answer::{Answer, Asked, Events, Reply, Response};
 use crate::base::Base;
@@ -15,6 +20,7 @@ use dap_messages::{
 };
 use serde_json::Value;
 use std::alloc::{AllocError, Global};
+use std::marker::Model;
 use std::mem;
 use std::rt::Files;
 use stops::EditorThread;
@@ -57,6 +63,21 @@ impl Drop for Adapter {
     }
 }
 
+impl Model for Adapter {
+    ghost use Rattle.dap_session.specs.Adapters.{AdapterState, OwesOnlyALaunch};
+
+    ghost Value = { AdapterState };
+
+    ghost view = { λ a. record {
+        phase = a.phase;
+        owed = a.owed;
+        run = a.debuggee;
+        stops_on_entry = a.stops_on_entry;
+    } };
+
+    ghost invariant = { λ a. OwesOnlyALaunch a.phase a.owed };
+}
+
 // Returns the number and the command of a message.
 fn asked_in(alloc: Global, message: &Value) -> Result<Asked, AllocError> {
     Ok(Asked {
@@ -91,7 +112,10 @@ impl Adapter {
         }
     }
 
-    fn initialize(&mut self, client: InitializeArguments) -> Result<Reply, Refusal> {
+    fn initialize(&mut self, client: InitializeArguments) -> Result<Reply, Refusal>
+        ensures ok { OnOk result (self.new ≡ record self.old { phase = Phase.Initialized }) }
+        ensures err { OnErr result (self.new ≡ self.old) }
+    {
         if self.phase != Phase::New {
             return Err(Refusal::Reason(Reason::AlreadyInitialized));
         }
@@ -105,12 +129,31 @@ impl Adapter {
     }
 
     // Returns why nothing can be launched now, if it can't.
-    fn launch_refusal(&self) -> Option<Refusal> {
+    fn may_launch(&self) -> Result<(), Reason>
+        ensures { OnOk result (self.now.phase ≡ Phase.Initialized) }
+    {
         match self.phase {
-            Phase::New => Some(Refusal::Reason(Reason::NotInitialized)),
-            Phase::Initialized => None,
-            Phase::Launched | Phase::Running => Some(Refusal::Reason(Reason::AlreadyLaunched)),
+            Phase::New => Err(Reason::NotInitialized),
+            Phase::Initialized => Ok(()),
+            Phase::Launched | Phase::Running => Err(Reason::AlreadyLaunched),
         }
+    }
+
+    // Takes over a run that was loaded.
+    fn take(&mut self, asked: Asked, stops_on_entry: bool, debuggee: Debuggee) -> Answer
+        requires initialized { self.old.phase ≡ Phase.Initialized }
+        requires start { (walk_of debuggee).at ≡ 0 }
+        ensures settled { Settles self.old.owed asked (answered result) self.new.owed }
+        ensures first { result.first ≡ None }
+        ensures launched { Launches self.old asked self.new }
+    {
+        self.debuggee = Some(debuggee);
+        self.stops_on_entry = stops_on_entry;
+        self.owed = Some(asked);
+        self.phase = Phase::Launched;
+        let mut answer = Answer::nothing();
+        answer.events.initialized = true;
+        answer
     }
 
     fn launch(
@@ -118,75 +161,96 @@ impl Adapter {
         rt: &(impl Files + AllocGlobal),
         asked: Asked,
         arguments: LaunchArguments,
-    ) -> Answer {
-        if let Some(refusal) = self.launch_refusal() {
-            return Answer::refused(asked, refusal);
+    ) -> Answer
+        ensures settled { Settles self.old.owed asked (answered result) self.new.owed }
+        ensures handled { MatchResult (outcome_in result.first)
+            (λ _. Launches self.old asked self.new) (λ _. self.new ≡ self.old) }
+    {
+        if let Err(reason) = self.may_launch() {
+            return Answer::refused(asked, Refusal::Reason(reason));
         }
         let LaunchArguments {
             program,
             stop_on_entry,
         } = arguments;
         match load(rt, self.base, program) {
-            Ok(debuggee) => {
-                self.debuggee = Some(debuggee);
-                self.stops_on_entry = stop_on_entry;
-                self.owed = Some(asked);
-                self.phase = Phase::Launched;
-                let mut answer = Answer::nothing();
-                answer.events.initialized = true;
-                answer
-            }
+            Ok(debuggee) => self.take(asked, stop_on_entry, debuggee),
             Err(refusal) => Answer::refused(asked, refusal),
+        }
+    }
+
+    // Returns why the session can't be configured now, if it can't.
+    fn may_configure(&self) -> Result<(), Reason>
+        ensures { OnOk result (self.now.phase ≡ Phase.Launched) }
+    {
+        match self.phase {
+            Phase::New => Err(Reason::NotInitialized),
+            Phase::Initialized => Err(Reason::NotLaunched),
+            Phase::Launched => Ok(()),
+            Phase::Running => Err(Reason::AlreadyConfigured),
         }
     }
 
     // Stops at the start of the run, or runs on.
-    fn start(&mut self) -> Result<Events, Refusal> {
-        let Some(debuggee) = &mut self.debuggee else {
-            return Err(Refusal::Reason(Reason::NotLaunched));
-        };
-        debuggee.start(self.stops_on_entry)
-    }
-
-    fn configuration_done(&mut self, asked: Asked) -> Answer {
-        match self.phase {
-            Phase::New => {
-                return Answer::refused(asked, Refusal::Reason(Reason::NotInitialized));
-            }
-            Phase::Initialized => {
-                return Answer::refused(asked, Refusal::Reason(Reason::NotLaunched));
-            }
-            Phase::Launched => {}
-            Phase::Running => {
-                return Answer::refused(asked, Refusal::Reason(Reason::AlreadyConfigured));
-            }
-        }
-        match self.start() {
-            Ok(events) => {
-                self.phase = Phase::Running;
-                Answer {
-                    first: Some(Response {
-                        asked,
-                        outcome: Ok(None),
-                    }),
-                    second: self.answered_launch(Ok(None)),
-                    events,
-                    ends: false,
-                }
-            }
-            Err(refusal) => Answer::refused(asked, refusal),
+    fn start(&mut self) -> Result<Events, Refusal>
+        ensures ok { OnOk result (self.new ≡ with_run self.old
+            (option_map (λ run. started run self.old.stops_on_entry) self.old.run)) }
+        ensures err { OnErr result (self.new ≡ self.old) }
+    {
+        match &mut self.debuggee {
+            Some(debuggee) => debuggee.start(self.stops_on_entry),
+            None => Err(Refusal::Reason(Reason::NotLaunched)),
         }
     }
 
     // Returns the response to the launch, if it isn't answered yet.
-    fn answered_launch(&mut self, outcome: Result<Option<Value>, Refusal>) -> Option<Response> {
+    fn answered_launch(&mut self, outcome: Result<Option<Value>, Refusal>) -> Option<Response>
+        ensures paid { self.new ≡ record self.old { owed = None } }
+        ensures asked { asked_in result ≡ owed_by self.old.owed }
+    {
         match self.owed.take() {
             Some(asked) => Some(Response { asked, outcome }),
             None => None,
         }
     }
 
-    fn disconnect(&mut self, asked: Asked) -> Answer {
+    // Answers the request that ends the configuration, and the launch.
+    fn configured(&mut self, asked: Asked, events: Events) -> Answer
+        ensures settled { Settles self.old.owed asked (answered result) self.new.owed }
+        ensures first { outcome_in result.first ≡ Ok None }
+        ensures running { self.new ≡ record self.old { phase = Phase.Running; owed = None } }
+    {
+        let second = self.answered_launch(Ok(None));
+        self.phase = Phase::Running;
+        Answer {
+            first: Some(Response {
+                asked,
+                outcome: Ok(None),
+            }),
+            second,
+            events,
+            ends: false,
+        }
+    }
+
+    fn configure(&mut self, asked: Asked) -> Answer
+        ensures settled { Settles self.old.owed asked (answered result) self.new.owed }
+        ensures handled { MatchResult (outcome_in result.first)
+            (λ _. self.new ≡ configured self.old) (λ _. self.new ≡ self.old) }
+    {
+        if let Err(reason) = self.may_configure() {
+            return Answer::refused(asked, Refusal::Reason(reason));
+        }
+        match self.start() {
+            Ok(events) => self.configured(asked, events),
+            Err(refusal) => Answer::refused(asked, refusal),
+        }
+    }
+
+    fn disconnect(&mut self, asked: Asked) -> Answer
+        ensures settled { Settles self.old.owed asked (answered result) self.new.owed }
+        ensures run { self.new.run ≡ self.old.run }
+    {
         if self.phase == Phase::New {
             return Answer::refused(asked, Refusal::Reason(Reason::NotInitialized));
         }
@@ -219,48 +283,92 @@ impl Adapter {
         }
     }
 
-    // Loads a run, with the breakpoints of the current one.
+    // Loads a run with the breakpoints of the current one, and starts it.
+    fn reloaded(
+        &self,
+        rt: &(impl Files + AllocGlobal),
+        program: Program,
+        stops_on_entry: bool,
+    ) -> Result<(Debuggee, Events), Refusal> {
+        let mut debuggee = load(rt, self.base, program)?;
+        if let Some(old) = &self.debuggee {
+            debuggee.set_all(&old.wanted)?;
+        }
+        let events = debuggee.start(stops_on_entry)?;
+        Ok((debuggee, events))
+    }
+
+    // Returns the breakpoints of the run, which then has none.
+    fn take_wanted(&mut self) -> Wanted
+        ensures { self.new ≡ self.old }
+    {
+        match &mut self.debuggee {
+            Some(debuggee) => mem::replace(&mut debuggee.wanted, Wanted::new(self.alloc)),
+            None => Wanted::new(self.alloc),
+        }
+    }
+
+    // Loads a run with the breakpoints of the current one, which it replaces.
     fn reload(
         &mut self,
         rt: &(impl Files + AllocGlobal),
         program: Program,
         stops_on_entry: bool,
-    ) -> Result<Reply, Refusal> {
-        let Some(old) = &mut self.debuggee else {
-            return Err(Refusal::Reason(Reason::NotLaunched));
-        };
-        let mut debuggee = load(rt, self.base, program)?;
-        debuggee.set_all(&old.wanted)?;
-        let events = debuggee.start(stops_on_entry)?;
-        debuggee.wanted = mem::replace(&mut old.wanted, Wanted::new(self.alloc));
+    ) -> Result<Reply, Refusal>
+        ensures ok { OnOk result (IsRestarted self.old self.new) }
+        ensures err { OnErr result (self.new ≡ self.old) }
+    {
+        let (mut debuggee, events) = self.reloaded(rt, program, stops_on_entry)?;
+        debuggee.wanted = self.take_wanted();
         self.debuggee = Some(debuggee);
         self.stops_on_entry = stops_on_entry;
         Ok(Reply { body: None, events })
+    }
+
+    // Returns why the run can't be restarted now, if it can't.
+    fn may_restart(&self) -> Result<(), Reason>
+        ensures { OnOk result (self.now.phase ≡ Phase.Running) }
+    {
+        match self.phase {
+            Phase::New => Err(Reason::NotInitialized),
+            Phase::Initialized => Err(Reason::NotLaunched),
+            Phase::Launched => Err(Reason::NotConfigured),
+            Phase::Running => Ok(()),
+        }
     }
 
     fn restart(
         &mut self,
         rt: &(impl Files + AllocGlobal),
         arguments: Option<LaunchArguments>,
-    ) -> Result<Reply, Refusal> {
+    ) -> Result<Reply, Refusal>
+        ensures ok { OnOk result (IsRestarted self.old self.new) }
+        ensures err { OnErr result (self.new ≡ self.old) }
+    {
+        if let Err(reason) = self.may_restart() {
+            return Err(Refusal::Reason(reason));
+        }
+        let (program, stops_on_entry) = self.restarted(arguments)?;
+        self.reload(rt, program, stops_on_entry)
+    }
+
+    // Returns why a request about the run is refused now, if it is.
+    fn may_reply(&self, request: &Request) -> Result<(), Reason> {
         match self.phase {
-            Phase::New => Err(Refusal::Reason(Reason::NotInitialized)),
-            Phase::Initialized => Err(Refusal::Reason(Reason::NotLaunched)),
-            Phase::Launched => Err(Refusal::Reason(Reason::NotConfigured)),
-            Phase::Running => {
-                let (program, stops_on_entry) = self.restarted(arguments)?;
-                self.reload(rt, program, stops_on_entry)
-            }
+            Phase::New => Err(Reason::NotInitialized),
+            Phase::Initialized => Err(Reason::NotLaunched),
+            Phase::Launched if moves(request) => Err(Reason::NotConfigured),
+            Phase::Launched | Phase::Running => Ok(()),
         }
     }
 
     // Replies to a request about the run.
-    fn reply(&mut self, request: Request) -> Result<Reply, Refusal> {
-        if self.phase == Phase::New {
-            return Err(Refusal::Reason(Reason::NotInitialized));
-        }
-        if self.phase == Phase::Launched && moves(&request) {
-            return Err(Refusal::Reason(Reason::NotConfigured));
+    fn reply(&mut self, request: Request) -> Result<Reply, Refusal>
+        ensures rest { self.new ≡ with_run self.old self.new.run }
+        ensures run { RunReplies self.old.run request (outcome_of result) self.new.run }
+    {
+        if let Err(reason) = self.may_reply(&request) {
+            return Err(Refusal::Reason(reason));
         }
         match &mut self.debuggee {
             Some(debuggee) => debuggee.reply(request),
@@ -274,11 +382,14 @@ impl Adapter {
         rt: &(impl Files + AllocGlobal),
         asked: Asked,
         request: Request,
-    ) -> Answer {
+    ) -> Answer
+        ensures settled { Settles self.old.owed asked (answered result) self.new.owed }
+        ensures handled { Handles self.old asked request (outcome_in result.first) self.new }
+    {
         match request {
             Request::Initialize(client) => Answer::replied(asked, self.initialize(client)),
             Request::Launch(arguments) => self.launch(rt, asked, arguments),
-            Request::ConfigurationDone => self.configuration_done(asked),
+            Request::ConfigurationDone => self.configure(asked),
             Request::Disconnect => self.disconnect(asked),
             Request::Restart(arguments) => Answer::replied(asked, self.restart(rt, arguments)),
             request => Answer::replied(asked, self.reply(request)),

@@ -1,4 +1,6 @@
 //! What is sent for a message of the editor.
+ghost use Rattle.std.specs.Prelude.{◌≡◌, None, Some, Err};
+ghost use Rattle.dap_session.specs.Owing.{outcome_of};
 
 use crate::refusal::Refusal;
 use dap_messages::Text;
@@ -69,7 +71,10 @@ impl Reply {
 
 impl Answer {
     /// Returns that nothing is sent.
-    pub fn nothing() -> Answer {
+    pub fn nothing() -> Answer
+        ensures first { result.first ≡ None }
+        ensures second { result.second ≡ None }
+    {
         Answer {
             first: None,
             second: None,
@@ -79,7 +84,11 @@ impl Answer {
     }
 
     /// Returns the response that a request is refused.
-    pub fn refused(asked: Asked, refusal: Refusal) -> Answer {
+    pub fn refused(asked: Asked, refusal: Refusal) -> Answer
+        ensures first { result.first
+            ≡ Some (record { asked = asked; outcome = Err refusal }) }
+        ensures second { result.second ≡ None }
+    {
         Answer {
             first: Some(Response {
                 asked,
@@ -92,7 +101,11 @@ impl Answer {
     }
 
     /// Returns the response to a request, and its events.
-    pub fn replied(asked: Asked, replied: Result<Reply, Refusal>) -> Answer {
+    pub fn replied(asked: Asked, replied: Result<Reply, Refusal>) -> Answer
+        ensures first { result.first
+            ≡ Some (record { asked = asked; outcome = outcome_of replied }) }
+        ensures second { result.second ≡ None }
+    {
         match replied {
             Ok(Reply { body, events }) => Answer {
                 first: Some(Response {

@@ -1,4 +1,7 @@
 //! The run that is debugged, and where it stops.
+ghost use Rattle.std.specs.Prelude.{◌≡◌, []};
+ghost use Rattle.watches.specs.Watchpoints.{nothing};
+ghost use Rattle.dap_session.specs.Runs.{walk_of};
 
 use crate::base::Base;
 use crate::wanted::Wanted;
@@ -11,6 +14,7 @@ use machine::State;
 use sentences::Run;
 use source_map::SourceMap;
 use std::alloc::{AllocError, Global};
+use std::marker::Model;
 use stops::{Marks, Moments};
 use watches::Watches;
 
@@ -69,6 +73,14 @@ fn reports_on(alloc: Global, walker: &Walker) -> Result<Vec<Report>, AllocError>
     reports_of(alloc, &run)
 }
 
+impl Model for Debuggee {
+    ghost use Rattle.dap_session.specs.Runs.{RunState};
+
+    ghost Value = { RunState };
+
+    ghost view = { λ d. record { session = d.session; data = d.watches; marks = d.marks } };
+}
+
 impl Debuggee {
     /// Returns a run that stops nowhere.
     pub(crate) fn new(
@@ -77,7 +89,13 @@ impl Debuggee {
         base: Base,
         path: Text,
         map: Option<SourceMap>,
-    ) -> Debuggee {
+    ) -> Debuggee
+        ensures { result ≡ record {
+            session = session;
+            data = nothing;
+            marks = record { breakpoints = []; findings = [] };
+        } }
+    {
         Debuggee {
             alloc,
             session,
@@ -103,12 +121,16 @@ impl Debuggee {
         }
     }
 
-    pub(crate) fn walker(&self) -> &Walker {
+    pub(crate) fn walker(&self) -> &Walker
+        ensures { result.now ≡ walk_of self.now }
+    {
         self.session.walker()
     }
 
     /// Searches the run for findings, unless that was done.
-    pub(crate) fn search(&mut self) -> Result<(), AllocError> {
+    pub(crate) fn search(&mut self) -> Result<(), AllocError>
+        ensures { self.new ≡ self.old }
+    {
         if self.reports.is_none() {
             self.reports = Some(reports_on(self.alloc, self.session.walker())?);
         }

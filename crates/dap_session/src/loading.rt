@@ -1,4 +1,7 @@
 //! Opens the run of a script or of a trace.
+ghost use Rattle.std.specs.Prelude.{◌≡◌, ◌≤◌, None, length, IfOk};
+ghost use Rattle.scenario.specs.Setups.{setup_refusal};
+ghost use Rattle.dap_session.specs.Runs.{walk_of};
 
 use crate::base::Base;
 use crate::debuggee::Debuggee;
@@ -71,7 +74,11 @@ fn session_at_start(
     alloc: Global,
     setup: &Setup,
     events: &[Event],
-) -> Result<Session, RunFault> {
+) -> Result<Session, RunFault>
+    requires starts { setup_refusal setup.now ≡ None }
+    requires most { length events.now ≤ 1048576 }
+    ensures { IfOk result (λ session. session.state.walk.at ≡ 0) }
+{
     let mut session = Session::of(alloc, setup, events)?;
     match session.jump(0) {
         Ok(()) => Ok(session),
@@ -84,7 +91,9 @@ fn open_script(
     alloc: Global,
     text: &[u8],
     script: &Script,
-) -> Result<(Session, Option<SourceMap>), RunFault> {
+) -> Result<(Session, Option<SourceMap>), RunFault>
+    ensures { IfOk result (λ r. r.0.state.walk.at ≡ 0) }
+{
     let Ok(map) = source_map(alloc, text, script) else {
         return Err(RunFault::Memory);
     };
@@ -93,7 +102,9 @@ fn open_script(
 }
 
 // Reads a script, and opens a session over it.
-fn read_text(alloc: Global, text: &[u8]) -> Result<(Session, Option<SourceMap>), RunFault> {
+fn read_text(alloc: Global, text: &[u8]) -> Result<(Session, Option<SourceMap>), RunFault>
+    ensures { IfOk result (λ r. r.0.state.walk.at ≡ 0) }
+{
     let script = script_of(alloc, text)?;
     open_script(alloc, text, &script)
 }
@@ -102,7 +113,9 @@ fn load_script(
     rt: &(impl Files + AllocGlobal),
     base: Base,
     path: Text,
-) -> Result<Debuggee, Refusal> {
+) -> Result<Debuggee, Refusal>
+    ensures { IfOk result (λ run. (walk_of run).at ≡ 0) }
+{
     let alloc = rt.alloc();
     let text = match read_file(rt, path.as_str(), SCRIPT_AND_ONE) {
         Ok(text) => text,
@@ -130,7 +143,10 @@ fn event_line(
     index: u32,
     setup: &Setup,
     events: &[Event],
-) -> Result<String, AllocError> {
+) -> Result<String, AllocError>
+    requires starts { setup_refusal setup.now ≡ None }
+    requires most { length events.now ≤ 1048576 }
+{
     let sentence = refusal_sentence(alloc, setup, events)?;
     format!(in alloc; "{path}: event {index}: {sentence}")
 }
@@ -141,7 +157,11 @@ fn open_trace(
     path: &str,
     setup: &Setup,
     events: &[Event],
-) -> Result<Session, Refusal> {
+) -> Result<Session, Refusal>
+    requires starts { setup_refusal setup.now ≡ None }
+    requires most { length events.now ≤ 1048576 }
+    ensures { IfOk result (λ session. session.state.walk.at ≡ 0) }
+{
     match session_at_start(alloc, setup, events) {
         Ok(session) => Ok(session),
         Err(RunFault::Schedule(index, _)) => {
@@ -155,7 +175,9 @@ fn open_trace(
 }
 
 // Reads a trace, and opens a session over it.
-fn read_trace(alloc: Global, path: &str, bytes: &[u8]) -> Result<Session, Refusal> {
+fn read_trace(alloc: Global, path: &str, bytes: &[u8]) -> Result<Session, Refusal>
+    ensures { IfOk result (λ session. session.state.walk.at ≡ 0) }
+{
     match read_trace2(alloc, bytes) {
         Ok((setup, events)) => open_trace(alloc, path, &setup, &events),
         Err(TraceFault::Memory) => Err(Refusal::Memory),
@@ -167,7 +189,9 @@ fn load_trace(
     rt: &(impl Files + AllocGlobal),
     base: Base,
     path: Text,
-) -> Result<Debuggee, Refusal> {
+) -> Result<Debuggee, Refusal>
+    ensures { IfOk result (λ run. (walk_of run).at ≡ 0) }
+{
     let alloc = rt.alloc();
     let bytes = match read_file(rt, path.as_str(), TRACE_AND_ONE) {
         Ok(bytes) => bytes,
@@ -184,7 +208,9 @@ pub(crate) fn load(
     rt: &(impl Files + AllocGlobal),
     base: Base,
     program: Program,
-) -> Result<Debuggee, Refusal> {
+) -> Result<Debuggee, Refusal>
+    ensures { IfOk result (λ run. (walk_of run).at ≡ 0) }
+{
     match program {
         Program::Script(path) => load_script(rt, base, path),
         Program::Trace(path) => load_trace(rt, base, path),

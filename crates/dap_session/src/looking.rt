@@ -1,4 +1,5 @@
 //! The requests that show a moment of the run.
+ghost use Rattle.std.specs.Prelude.{◌≡◌};
 
 use crate::answer::Reply;
 use crate::debuggee::Debuggee;
@@ -101,7 +102,9 @@ impl Debuggee {
         Ok(Reply::of(Some(scopes_body(self.alloc, self.walker(), thread)?)))
     }
 
-    pub(crate) fn variables(&mut self, arguments: VariablesArguments) -> Result<Reply, Refusal> {
+    pub(crate) fn variables(&mut self, arguments: VariablesArguments) -> Result<Reply, Refusal>
+        ensures { self.new ≡ self.old }
+    {
         let Some(container) = container_of(arguments.container) else {
             return Err(Refusal::Reason(Reason::NoContainer));
         };
@@ -137,7 +140,9 @@ impl Debuggee {
         Ok(Reply::of(Some(body)))
     }
 
-    pub(crate) fn exception_info(&mut self, thread: u64) -> Result<Reply, Refusal> {
+    pub(crate) fn exception_info(&mut self, thread: u64) -> Result<Reply, Refusal>
+        ensures { self.new ≡ self.old }
+    {
         self.thread(thread)?;
         self.search()?;
         let Some(report) = self.report_at(self.walker().at()) else {

@@ -1,4 +1,7 @@
 //! The requests that move.
+ghost use Rattle.std.specs.Prelude.{◌≡◌, ◌⊎◌, ◌<◌, IfOk, IfErr, OnOk, OnErr};
+ghost use Rattle.dap_session.specs.Moves.{thread_at, stepping, next_moment, previous_moment, inner_moment, watched_moment, forward_moment, backward_moment, commanded, started};
+ghost use Rattle.dap_session.specs.Runs.{gone_to};
 
 use crate::answer::{Events, Reply};
 use crate::debuggee::Debuggee;
@@ -11,7 +14,7 @@ use run_log::{change_lines, changes_of};
 use script::EventText;
 use serde_json::Value;
 use std::alloc::{AllocError, Global};
-use stops::{Cause, EditorThread, Landing, backward, forward, next_stop, previous_stop};
+use stops::{Cause, EditorThread, Landing, backward, forward, next_stop, previous_stop, record_of};
 use watches::{Stop, earlier, later};
 
 /// The number of the thread `run`.
@@ -80,7 +83,9 @@ fn thread_doing(event: Event) -> EditorThread {
 }
 
 // Returns the moment at which the watches stop a run, if they do.
-fn moment_of(stop: Stop) -> Option<usize> {
+fn watched_moment(stop: Stop) -> Option<usize>
+    ensures { result ≡ watched_moment stop }
+{
     match stop {
         Stop::Change(moment) | Stop::Met(moment) => Some(moment),
         Stop::Start | Stop::End => None,
@@ -111,7 +116,7 @@ impl Debuggee {
         let Some(index) = walker.at().checked_sub(1) else {
             return Ok(None);
         };
-        let changes = changes_of(self.alloc, &walker.records()[index], walker.state())?;
+        let changes = changes_of(self.alloc, record_of(walker, index), walker.state())?;
         let event = EventText(walker.events()[index]);
         let mut text = format!(in self.alloc; "{index} {event}\n")?;
         for line in &change_lines(self.alloc, walker.setup(), &changes)? {
@@ -124,7 +129,7 @@ impl Debuggee {
     }
 
     // Returns the body of the `output` event for the event before the position.
-    fn stepped(&self) -> Result<Option<Value>, AllocError> {
+    fn stepped_output(&self) -> Result<Option<Value>, AllocError> {
         let Some(text) = self.stepped_text()? else {
             return Ok(None);
         };
@@ -134,20 +139,31 @@ impl Debuggee {
         Ok(Some(members.finish()))
     }
 
-    // Moves to a moment. All but the log of the last event is built before, so that a failed
-    // allocation changes nothing.
+    // Returns the same, or none if an allocation fails.
+    fn output(&self) -> Option<Value> {
+        match self.stepped_output() {
+            Ok(output) => output,
+            Err(_) => None,
+        }
+    }
+
+    // Moves to a moment, if the run has it. All but the log of the last event is built before, so
+    // that a failed allocation changes nothing.
     fn go(
         &mut self,
         moment: usize,
         body: Option<Value>,
         stopped: Value,
-    ) -> Result<Reply, Refusal> {
+    ) -> Result<Reply, Refusal>
+        ensures moved { OnOk result (self.new ≡ gone_to self.old moment) }
+        ensures err { OnErr result (self.new ≡ self.old) }
+    {
+        if self.walker().len() < moment {
+            return Err(Refusal::Reason(Reason::NoTarget));
+        }
         let is_forward = self.walker().at() < moment;
         self.session.jump(moment)?;
-        let output = match self.stepped() {
-            Ok(output) if is_forward => output,
-            _ => None,
-        };
+        let output = if is_forward { self.output() } else { None };
         Ok(Reply {
             body,
             events: Events {
@@ -160,7 +176,9 @@ impl Debuggee {
     }
 
     // Returns the thread of a request.
-    pub(crate) fn thread(&self, number: u64) -> Result<EditorThread, Refusal> {
+    pub(crate) fn thread(&self, number: u64) -> Result<EditorThread, Refusal>
+        ensures { IfOk result (λ thread. thread ≡ thread_at self.now number) }
+    {
         match thread_of(self.walker().setup(), number) {
             Some(thread) => Ok(thread),
             None => Err(Refusal::Reason(Reason::NoThread)),
@@ -168,7 +186,10 @@ impl Debuggee {
     }
 
     // Goes to a stop point of a thread.
-    fn step_to(&mut self, thread: EditorThread, moment: usize) -> Result<Reply, Refusal> {
+    fn step_to(&mut self, thread: EditorThread, moment: usize) -> Result<Reply, Refusal>
+        ensures moved { OnOk result (self.new ≡ gone_to self.old moment) }
+        ensures err { OnErr result (self.new ≡ self.old) }
+    {
         let is_end = moment == 0 || moment == self.walker().len();
         let why = if is_end { Why::Pause } else { Why::Step };
         let stopped = self.stopped(why, thread, None)?;
@@ -176,7 +197,10 @@ impl Debuggee {
     }
 
     /// Goes to the next stop point of a thread.
-    pub(crate) fn next(&mut self, arguments: StepArguments) -> Result<Reply, Refusal> {
+    pub(crate) fn next(&mut self, arguments: StepArguments) -> Result<Reply, Refusal>
+        ensures moved { OnOk result (self.new ≡ gone_to self.old (next_moment self.old arguments)) }
+        ensures err { OnErr result (self.new ≡ self.old) }
+    {
         let thread = self.thread(arguments.thread)?;
         let by = stepping(thread, arguments.granularity);
         let moment = next_stop(self.walker().events(), by, self.walker().at());
@@ -184,7 +208,10 @@ impl Debuggee {
     }
 
     /// Goes to the previous stop point of a thread.
-    pub(crate) fn step_back(&mut self, arguments: StepArguments) -> Result<Reply, Refusal> {
+    pub(crate) fn step_back(&mut self, arguments: StepArguments) -> Result<Reply, Refusal>
+        ensures moved { OnOk result (self.new ≡ gone_to self.old (previous_moment self.old arguments)) }
+        ensures err { OnErr result (self.new ≡ self.old) }
+    {
         let thread = self.thread(arguments.thread)?;
         let by = stepping(thread, arguments.granularity);
         let moment = previous_stop(self.walker().events(), by, self.walker().at());
@@ -192,32 +219,26 @@ impl Debuggee {
     }
 
     /// Goes on by one event, or to a target.
-    pub(crate) fn step_in(&mut self, arguments: StepArguments) -> Result<Reply, Refusal> {
+    pub(crate) fn step_in(&mut self, arguments: StepArguments) -> Result<Reply, Refusal>
+        ensures moved { OnOk result (self.new ≡ gone_to self.old (inner_moment self.old arguments)) }
+        ensures err { OnErr result (self.new ≡ self.old) }
+    {
         let thread = self.thread(arguments.thread)?;
         let Some(target) = arguments.target else {
             let moment = next_stop(self.walker().events(), EditorThread::Run, self.walker().at());
             return self.step_to(thread, moment);
         };
-        let moment = self.moment_of(target, Reason::NoTarget)?;
-        self.step_to(thread, moment)
-    }
-
-    // Returns the moment with a number.
-    pub(crate) fn moment_of(&self, number: u64, reason: Reason) -> Result<usize, Refusal> {
-        let len = self.walker().len();
-        if number <= len as u64 {
-            Ok(number as usize)
-        } else {
-            Err(Refusal::Reason(reason))
-        }
+        self.step_to(thread, target as usize)
     }
 
     /// Goes to a target.
-    pub(crate) fn goto(&mut self, thread: u64, target: u64) -> Result<Reply, Refusal> {
+    pub(crate) fn goto(&mut self, thread: u64, target: u64) -> Result<Reply, Refusal>
+        ensures moved { OnOk result (self.new ≡ gone_to self.old target) }
+        ensures err { OnErr result (self.new ≡ self.old) }
+    {
         let thread = self.thread(thread)?;
-        let moment = self.moment_of(target, Reason::NoTarget)?;
         let stopped = self.stopped(Why::Goto, thread, None)?;
-        self.go(moment, None, stopped)
+        self.go(target as usize, None, stopped)
     }
 
     // Returns the thread that an editor shows where a run stops: the one of the event in question,
@@ -247,10 +268,13 @@ impl Debuggee {
     }
 
     /// Runs forward.
-    pub(crate) fn run_on(&mut self, thread: EditorThread) -> Result<Reply, Refusal> {
+    pub(crate) fn run_on(&mut self, thread: EditorThread) -> Result<Reply, Refusal>
+        ensures moved { OnOk result (self.new ≡ gone_to self.old (forward_moment self.old)) }
+        ensures err { OnErr result (self.new ≡ self.old) }
+    {
         let body = all_continued(self.alloc)?;
         let walker = self.session.walker();
-        let watched = moment_of(later(walker, &self.watches)?);
+        let watched = watched_moment(later(walker, &self.watches)?);
         let landing = forward(&self.marks, watched, walker.at(), walker.len());
         let event = match landing.cause {
             Cause::Breakpoint | Cause::Finding => Some(landing.moment),
@@ -262,9 +286,12 @@ impl Debuggee {
     }
 
     /// Runs back.
-    pub(crate) fn run_back(&mut self, thread: EditorThread) -> Result<Reply, Refusal> {
+    pub(crate) fn run_back(&mut self, thread: EditorThread) -> Result<Reply, Refusal>
+        ensures moved { OnOk result (self.new ≡ gone_to self.old (backward_moment self.old)) }
+        ensures err { OnErr result (self.new ≡ self.old) }
+    {
         let walker = self.session.walker();
-        let watched = moment_of(earlier(walker, &self.watches));
+        let watched = watched_moment(earlier(walker, &self.watches));
         let landing = backward(&self.marks, watched, walker.at());
         let event = match landing.cause {
             Cause::End => None,
@@ -275,7 +302,10 @@ impl Debuggee {
     }
 
     /// Stops at the start of the run, or runs on.
-    pub(crate) fn start(&mut self, stops_on_entry: bool) -> Result<Events, Refusal> {
+    pub(crate) fn start(&mut self, stops_on_entry: bool) -> Result<Events, Refusal>
+        ensures moved { OnOk result (self.new ≡ started self.old stops_on_entry) }
+        ensures err { OnErr result (self.new ≡ self.old) }
+    {
         if !stops_on_entry {
             let Reply { events, .. } = self.run_on(EditorThread::Run)?;
             return Ok(events);
@@ -286,7 +316,10 @@ impl Debuggee {
     }
 
     /// Replies to a line of the console.
-    pub(crate) fn console(&mut self, line: &str) -> Result<Reply, Refusal> {
+    pub(crate) fn console(&mut self, line: &str) -> Result<Reply, Refusal>
+        ensures moved { OnOk result (self.new ≡ commanded self.old line.now) }
+        ensures err { IfErr result (λ e. (self.new ≡ self.old) ⊎ (e ≡ Refusal.Memory)) }
+    {
         let stopped = self.stopped(Why::Goto, EditorThread::Run, None)?;
         let continued = continued(self.alloc)?;
         let before = self.walker().at();
@@ -309,7 +342,9 @@ impl Debuggee {
 }
 
 // Returns the thread whose stop points a step uses.
-fn stepping(thread: EditorThread, granularity: Granularity) -> EditorThread {
+fn stepping(thread: EditorThread, granularity: Granularity) -> EditorThread
+    ensures { result ≡ stepping thread granularity }
+{
     match granularity {
         Granularity::Instruction => EditorThread::Run,
         _ => thread,

@@ -1,4 +1,10 @@
 //! Messages for the editor, as frames.
+ghost use Rattle.std.specs.Prelude.{◌≡◌, ◌+◌, ◌++◌, [], List, ℕ, codes, false, string_bytes, IfOk, OnOk, Ok};
+ghost use Rattle.serde_json.specs.View.{view};
+ghost use Rattle.serde_json.specs.Written.{has_float, compact_text};
+ghost use Rattle.dap_frames.specs.Decoding.{frame};
+ghost use Rattle.dap_messages.specs.Messages.{error_value};
+ghost use Rattle.dap_session.specs.Posting.{Posts, Refuses, Responds, RespondsBy, RespondsIfAny, Sends, Tells, TellsAll, TellsIf, TellsIfAny};
 
 use crate::answer::{Answer, Asked, Events, Response};
 use crate::refusal::{Reason, Refusal};
@@ -6,6 +12,7 @@ use dap_frames::{WriteFault, frame_of};
 use dap_messages::{error_response, event, response};
 use serde_json::Value;
 use std::alloc::{AllocError, Global};
+use std::marker::Model;
 
 /// Frames that are to be written, and the number of the next message.
 #[derive(Drop)]
@@ -15,8 +22,20 @@ pub(crate) struct Outbox {
     bytes: Vec<u8>,
 }
 
+impl Model for Outbox {
+    ghost use Rattle.dap_session.specs.Posting.{Posted};
+
+    ghost Value = { Posted };
+
+    ghost view = { λ o. record { next = o.next; bytes = o.bytes.items } };
+}
+
 // Returns the frame of a message.
-fn framed(alloc: Global, message: &Value) -> Result<String, WriteFault> {
+fn framed(alloc: Global, message: &Value) -> Result<String, WriteFault>
+    ensures { IfOk result (λ text. (body : List ℕ)
+        × (has_float (view message.now) ≡ false → body ≡ compact_text (view message.now))
+        × (string_bytes text ≡ frame body)) }
+{
     let body = message.to_string(alloc)?;
     frame_of(alloc, body.as_str())
 }
@@ -27,25 +46,20 @@ fn refusal_of(
     seq: u64,
     asked: &Asked,
     refusal: &Refusal,
-) -> Result<Value, AllocError> {
+) -> Result<Value, AllocError>
+    ensures { IfOk result (λ v. (kind : ℕ) × (sentence : List ℕ)
+        × (view v ≡ error_value seq asked.now.seq asked.now.command kind sentence)) }
+{
     let text = refusal.sentence(alloc)?;
     let (kind, command) = (refusal.number(), asked.command.as_str());
     error_response(alloc, seq, asked.seq, command, kind, text.as_str())
 }
 
-// Returns the response to a request.
-fn response_of(alloc: Global, seq: u64, answer: Response) -> Result<(Asked, Value), AllocError> {
-    let Response { asked, outcome } = answer;
-    let message = match outcome {
-        Ok(body) => response(alloc, seq, asked.seq, asked.command.as_str(), body)?,
-        Err(refusal) => refusal_of(alloc, seq, &asked, &refusal)?,
-    };
-    Ok((asked, message))
-}
-
 impl Outbox {
     /// Returns an outbox without frames, whose first message has the number 1.
-    pub(crate) fn new(alloc: Global) -> Outbox {
+    pub(crate) fn new(alloc: Global) -> Outbox
+        ensures { result ≡ record { next = 1; bytes = [] } }
+    {
         Outbox {
             alloc,
             next: 1,
@@ -54,17 +68,26 @@ impl Outbox {
     }
 
     /// Returns the frames.
-    pub(crate) fn bytes(&self) -> &[u8] {
+    pub(crate) fn bytes(&self) -> &[u8]
+        ensures { result.now ≡ self.now.bytes }
+    {
         self.bytes.as_slice()
     }
 
     /// Removes the frames.
-    pub(crate) fn clear(&mut self) {
+    pub(crate) fn clear(&mut self)
+        ensures { self.new ≡ record { next = self.old.next; bytes = [] } }
+    {
         self.bytes.clear();
     }
 
     // Adds a frame, and counts it.
-    fn add(&mut self, frame: &str) -> Result<(), AllocError> {
+    fn add(&mut self, frame: &str) -> Result<(), AllocError>
+        ensures { OnOk result (self.new ≡ record {
+            next = self.old.next + 1;
+            bytes = self.old.bytes ++ frame.now;
+        }) }
+    {
         let Some(next) = self.next.checked_add(1) else {
             return Err(AllocError);
         };
@@ -74,29 +97,53 @@ impl Outbox {
     }
 
     // Adds a message that is short enough.
-    fn send(&mut self, message: &Value) -> Result<(), AllocError> {
+    fn send(&mut self, message: &Value) -> Result<(), AllocError>
+        ensures { OnOk result (Sends self.old self.new (view message.now)) }
+    {
         match framed(self.alloc, message) {
             Ok(frame) => self.add(frame.as_str()),
             Err(_) => Err(AllocError),
         }
     }
 
-    // Adds a response. If it is too long, adds a refusal.
-    fn respond(&mut self, answer: Response) -> Result<(), AllocError> {
-        let (asked, message) = response_of(self.alloc, self.next, answer)?;
+    // Adds the response that a request is refused.
+    fn refuse(&mut self, asked: &Asked, refusal: &Refusal) -> Result<(), AllocError>
+        ensures { OnOk result (Refuses self.old asked.now self.new) }
+    {
+        let message = refusal_of(self.alloc, self.next, asked, refusal)?;
+        self.send(&message)
+    }
+
+    // Adds the response to a request that succeeded. If it is too long, adds a refusal.
+    fn succeed(&mut self, asked: &Asked, body: Option<Value>) -> Result<(), AllocError>
+        ensures { OnOk result (RespondsBy self.old asked.now (Ok body) self.new) }
+    {
+        let command = asked.command.as_str();
+        let message = response(self.alloc, self.next, asked.seq, command, body)?;
         match framed(self.alloc, &message) {
             Ok(frame) => self.add(frame.as_str()),
             Err(WriteFault::Memory) => Err(AllocError),
             Err(WriteFault::BodyTooLong) => {
-                let refusal = Refusal::Reason(Reason::TooLong);
-                let message = refusal_of(self.alloc, self.next, &asked, &refusal)?;
-                self.send(&message)
+                self.refuse(asked, &Refusal::Reason(Reason::TooLong))
             }
         }
     }
 
+    // Adds a response.
+    fn respond(&mut self, answer: Response) -> Result<(), AllocError>
+        ensures { OnOk result (Responds self.old answer self.new) }
+    {
+        let Response { asked, outcome } = answer;
+        match outcome {
+            Ok(body) => self.succeed(&asked, body),
+            Err(refusal) => self.refuse(&asked, &refusal),
+        }
+    }
+
     // Adds an event. One that is too long is left out.
-    fn tell(&mut self, name: &str, body: Option<Value>) -> Result<(), AllocError> {
+    fn tell(&mut self, name: &str, body: Option<Value>) -> Result<(), AllocError>
+        ensures { OnOk result (Tells self.old name.now body self.new) }
+    {
         let message = event(self.alloc, self.next, name, body)?;
         match framed(self.alloc, &message) {
             Ok(frame) => self.add(frame.as_str()),
@@ -106,29 +153,40 @@ impl Outbox {
     }
 
     // Adds an event, if it has a body.
-    fn tell_of(&mut self, name: &str, body: Option<Value>) -> Result<(), AllocError> {
-        if body.is_none() {
-            return Ok(());
+    fn tell_of(&mut self, name: &str, body: Option<Value>) -> Result<(), AllocError>
+        ensures { OnOk result (TellsIfAny self.old name.now body self.new) }
+    {
+        match body {
+            Some(body) => self.tell(name, Some(body)),
+            None => Ok(()),
         }
-        self.tell(name, body)
     }
 
-    fn tell_all(&mut self, events: Events) -> Result<(), AllocError> {
+    // Adds an event without a body, if it is wanted.
+    fn tell_if(&mut self, is_wanted: bool, name: &str) -> Result<(), AllocError>
+        ensures { OnOk result (TellsIf is_wanted self.old name.now self.new) }
+    {
+        if is_wanted { self.tell(name, None) } else { Ok(()) }
+    }
+
+    fn tell_all(&mut self, events: Events) -> Result<(), AllocError>
+        ensures { OnOk result (TellsAll self.old events self.new) }
+    {
         let Events {
             initialized,
             continued,
             output,
             stopped,
         } = events;
-        if initialized {
-            self.tell("initialized", None)?;
-        }
+        self.tell_if(initialized, "initialized")?;
         self.tell_of("continued", continued)?;
         self.tell_of("output", output)?;
         self.tell_of("stopped", stopped)
     }
 
-    fn respond_if_any(&mut self, answer: Option<Response>) -> Result<(), AllocError> {
+    fn respond_if_any(&mut self, answer: Option<Response>) -> Result<(), AllocError>
+        ensures { OnOk result (RespondsIfAny self.old answer self.new) }
+    {
         match answer {
             Some(answer) => self.respond(answer),
             None => Ok(()),
@@ -136,7 +194,9 @@ impl Outbox {
     }
 
     /// Adds the messages of an answer. Returns whether the session ends.
-    pub(crate) fn post(&mut self, answer: Answer) -> Result<bool, AllocError> {
+    pub(crate) fn post(&mut self, answer: Answer) -> Result<bool, AllocError>
+        ensures { OnOk result (Posts self.old answer self.new) }
+    {
         let Answer {
             first,
             second,

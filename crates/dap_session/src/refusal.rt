@@ -1,4 +1,6 @@
 //! Why a request is refused.
+ghost use Rattle.std.specs.Prelude.{◌≡◌};
+ghost use Rattle.dap_session.specs.declared.refusal.Refusal.TheVariants.{Memory};
 
 use dap_messages::{Field, RequestFault};
 use std::alloc::{AllocError, AllocFailed, Global};
@@ -108,25 +110,17 @@ fn bad_argument(alloc: Global, field: Field) -> Result<String, AllocError> {
 }
 
 impl From<AllocError> for Refusal {
+    ghost from_gives = { λ _ e. e ≡ Memory };
+
     fn from(_e: AllocError) -> Refusal {
         Refusal::Memory
     }
 }
 
 impl<T: Drop> From<AllocFailed<T>> for Refusal {
+    ghost from_gives = { λ _ e. e ≡ Memory };
+
     fn from(_e: AllocFailed<T>) -> Refusal {
         Refusal::Memory
-    }
-}
-
-impl From<RequestFault> for Refusal {
-    fn from(fault: RequestFault) -> Refusal {
-        Refusal::Request(fault)
-    }
-}
-
-impl From<Reason> for Refusal {
-    fn from(reason: Reason) -> Refusal {
-        Refusal::Reason(reason)
     }
 }

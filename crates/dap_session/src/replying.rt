@@ -1,4 +1,7 @@
 //! Replies to the requests about a run.
+ghost use Rattle.std.specs.Prelude.{◌≡◌, ◌⊎◌, OnOk, OnErr, IfErr};
+ghost use Rattle.dap_session.specs.Moves.{Evaluates, Moves, forward_moment, backward_moment};
+ghost use Rattle.dap_session.specs.Runs.{gone_to};
 
 use crate::answer::Reply;
 use crate::debuggee::Debuggee;
@@ -27,7 +30,11 @@ pub(crate) fn moves(request: &Request) -> bool {
 
 impl Debuggee {
     // Replies to an expression: in the console to a line of commands, elsewhere to a place.
-    fn reply_to_expression(&mut self, arguments: &EvaluateArguments) -> Result<Reply, Refusal> {
+    fn reply_to_expression(&mut self, arguments: &EvaluateArguments) -> Result<Reply, Refusal>
+        ensures moved { OnOk result
+            (Evaluates self.old arguments.now.context arguments.now.expression self.new) }
+        ensures err { IfErr result (λ e. (self.new ≡ self.old) ⊎ (e ≡ Refusal.Memory)) }
+    {
         let text = arguments.expression.as_str();
         match arguments.context {
             Context::Repl => self.console(text),
@@ -36,19 +43,28 @@ impl Debuggee {
     }
 
     // Runs forward, by request of a thread.
-    fn reply_to_continue(&mut self, thread: u64) -> Result<Reply, Refusal> {
+    fn reply_to_continue(&mut self, thread: u64) -> Result<Reply, Refusal>
+        ensures moved { OnOk result (self.new ≡ gone_to self.old (forward_moment self.old)) }
+        ensures err { OnErr result (self.new ≡ self.old) }
+    {
         let thread = self.thread(thread)?;
         self.run_on(thread)
     }
 
     // Runs back, by request of a thread.
-    fn reply_to_reverse(&mut self, thread: u64) -> Result<Reply, Refusal> {
+    fn reply_to_reverse(&mut self, thread: u64) -> Result<Reply, Refusal>
+        ensures moved { OnOk result (self.new ≡ gone_to self.old (backward_moment self.old)) }
+        ensures err { OnErr result (self.new ≡ self.old) }
+    {
         let thread = self.thread(thread)?;
         self.run_back(thread)
     }
 
     /// Replies to a request.
-    pub(crate) fn reply(&mut self, request: Request) -> Result<Reply, Refusal> {
+    pub(crate) fn reply(&mut self, request: Request) -> Result<Reply, Refusal>
+        ensures moved { OnOk result (Moves self.old request self.new) }
+        ensures err { IfErr result (λ e. (self.new ≡ self.old) ⊎ (e ≡ Refusal.Memory)) }
+    {
         match request {
             Request::Threads => self.threads(),
             Request::StackTrace(arguments) => self.stack_trace(arguments),

@@ -1,4 +1,5 @@
 //! The requests that set breakpoints.
+ghost use Rattle.std.specs.Prelude.{◌≡◌, OnErr};
 
 use crate::answer::Reply;
 use crate::breakpoints::{Lines, moment_of, moments_of, name_of};
@@ -225,7 +226,10 @@ impl Debuggee {
     pub(crate) fn set_breakpoints(
         &mut self,
         arguments: SetBreakpointsArguments,
-    ) -> Result<Reply, Refusal> {
+    ) -> Result<Reply, Refusal>
+        ensures session { self.new.session ≡ self.old.session }
+        ensures err { OnErr result (self.new ≡ self.old) }
+    {
         let SetBreakpointsArguments {
             source,
             breakpoints,
@@ -249,7 +253,10 @@ impl Debuggee {
     pub(crate) fn set_functions(
         &mut self,
         wanted: Items<FunctionBreakpoint>,
-    ) -> Result<Reply, Refusal> {
+    ) -> Result<Reply, Refusal>
+        ensures session { self.new.session ≡ self.old.session }
+        ensures err { OnErr result (self.new ≡ self.old) }
+    {
         let body = function_verdicts(self.alloc, self.walker(), wanted.as_slice())?;
         let moments = moments_of(
             self.alloc,
@@ -266,7 +273,10 @@ impl Debuggee {
     pub(crate) fn set_instructions(
         &mut self,
         wanted: Items<InstructionBreakpoint>,
-    ) -> Result<Reply, Refusal> {
+    ) -> Result<Reply, Refusal>
+        ensures session { self.new.session ≡ self.old.session }
+        ensures err { OnErr result (self.new ≡ self.old) }
+    {
         let body = instruction_verdicts(self.alloc, self.walker(), wanted.as_slice())?;
         let moments = moments_of(
             self.alloc,
@@ -280,7 +290,10 @@ impl Debuggee {
         Ok(Reply::of(Some(body)))
     }
 
-    pub(crate) fn set_data(&mut self, wanted: Items<DataBreakpoint>) -> Result<Reply, Refusal> {
+    pub(crate) fn set_data(&mut self, wanted: Items<DataBreakpoint>) -> Result<Reply, Refusal>
+        ensures session { self.new.session ≡ self.old.session }
+        ensures err { OnErr result (self.new ≡ self.old) }
+    {
         let (watches, body) = data_of(self.alloc, self.walker(), wanted.as_slice())?;
         self.wanted.data = wanted;
         self.watches = watches;
@@ -290,7 +303,10 @@ impl Debuggee {
     pub(crate) fn set_exceptions(
         &mut self,
         wanted: Items<ExceptionFilter>,
-    ) -> Result<Reply, Refusal> {
+    ) -> Result<Reply, Refusal>
+        ensures session { self.new.session ≡ self.old.session }
+        ensures err { OnErr result (self.new ≡ self.old) }
+    {
         if wanted.is_empty() {
             self.marks.findings = Moments::new(self.alloc);
             self.wanted.filters = wanted;
@@ -303,7 +319,9 @@ impl Debuggee {
     }
 
     /// Sets the breakpoints that the editor set for an earlier run.
-    pub(crate) fn set_all(&mut self, wanted: &Wanted) -> Result<(), Refusal> {
+    pub(crate) fn set_all(&mut self, wanted: &Wanted) -> Result<(), Refusal>
+        ensures { self.new.session ≡ self.old.session }
+    {
         self.marks.breakpoints = moments_of(
             self.alloc,
             self.lines(),
