@@ -3,3 +3,4 @@ pub mod Moves
 pub mod Owing
 pub mod Adapters
 pub mod Posting
+pub mod Messages

@@ -22,7 +22,7 @@ pub enum SessionFault {
     Frame(FrameFault),
 }
 
-/// What is kept between reads.
+/// The state of a session between reads.
 #[derive(Drop)]
 struct Serving {
     adapter: Adapter,
@@ -56,7 +56,13 @@ impl Serving {
         rt: &(impl Files + AllocGlobal),
         body: &[u8],
         writer: &mut W,
-    ) -> Result<bool, SessionFault> {
+    ) -> Result<bool, SessionFault>
+        ensures { OnOk result ((a : Answer) × (posted : Posted)
+            × Answers self.old.adapter body.now a self.new.adapter
+            × Posts (record { next = self.old.outbox.next; bytes = [] }) a posted
+            × Appends (W.contents writer.old) (W.contents writer.new) posted.bytes
+            × (self.new.outbox ≡ record { next = posted.next; bytes = [] })) }
+    {
         let Ok(answer) = self.adapter.answer(rt, body) else {
             return Err(SessionFault::Memory);
         };
