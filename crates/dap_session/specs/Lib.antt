@@ -4,3 +4,4 @@ pub mod Owing
 pub mod Adapters
 pub mod Posting
 pub mod Messages
+pub mod Serving

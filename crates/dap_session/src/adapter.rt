@@ -6,6 +6,7 @@ ghost use Rattle.dap_session.specs.Messages.{Answers, AnswersValue, asked_of, no
 ghost use Rattle.dap_session.specs.Moves.{started};
 ghost use Rattle.dap_session.specs.Owing.{Settles, answered, asked_in, outcome_in, outcome_of, owed_by};
 ghost use Rattle.dap_session.specs.Runs.{walk_of};
+ghost use Rattle.dap_session.specs.Serving.{fresh_adapter};
 
 use crate::answer::{Answer, Asked, Events, Reply, Response};
 use crate::base::Base;
@@ -101,7 +102,9 @@ fn nobody(alloc: Global) -> Result<Asked, AllocError>
 }
 
 impl Adapter {
-    pub(crate) fn new(alloc: Global) -> Adapter {
+    pub(crate) fn new(alloc: Global) -> Adapter
+        ensures { result ≡ fresh_adapter }
+    {
         Adapter {
             alloc,
             phase: Phase::New,

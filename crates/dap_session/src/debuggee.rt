@@ -82,7 +82,7 @@ impl Model for Debuggee {
 
     ghost Value = { RunState };
 
-    ghost view = { λ d. record { session = d.session; data = d.watches; marks = d.marks } };
+    ghost view = { λ d. record { session = d.session; watches = d.watches; marks = d.marks } };
 }
 
 impl Debuggee {
@@ -96,7 +96,7 @@ impl Debuggee {
     ) -> Debuggee
         ensures { result ≡ record {
             session = session;
-            data = nothing;
+            watches = nothing;
             marks = record { breakpoints = []; findings = [] };
         } }
     {

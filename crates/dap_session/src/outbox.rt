@@ -200,7 +200,8 @@ impl Outbox {
 
     /// Adds the messages of an answer. Returns whether the session ends.
     pub(crate) fn post(&mut self, answer: Answer) -> Result<bool, AllocError>
-        ensures { OnOk result (Posts self.old answer self.new) }
+        ensures posted { OnOk result (Posts self.old answer self.new) }
+        ensures ends { IfOk result (λ ends. ends ≡ answer.ends) }
     {
         let Answer {
             first,
