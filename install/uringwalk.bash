@@ -18,7 +18,7 @@ _uringwalk_options() {
     case $1 in
         trace) echo "--form --eager" ;;
         log | timeline) echo "--from --to" ;;
-        explain) echo "--kind --allow --json" ;;
+        explain) echo "--kind --allow --json --sarif" ;;
         explore)
             echo "--kind --until --runs --seed --first --events --out --unlocked --sound-device --threads --json"
             ;;

@@ -43,6 +43,7 @@ complete -c uringwalk -n '__uringwalk_word_is trace' -l eager -d 'The run of a k
 complete -c uringwalk -n '__uringwalk_word_is log timeline' -l from -x -d 'The first event'
 complete -c uringwalk -n '__uringwalk_word_is log timeline' -l to -x -d 'The event after the last'
 complete -c uringwalk -n '__uringwalk_word_is explain' -l json -d 'Print JSON'
+complete -c uringwalk -n '__uringwalk_word_is explain' -l sarif -d 'Print a SARIF log'
 complete -c uringwalk -n '__uringwalk_word_is explain' -l kind -x -d 'Findings of this kind alone' -a "$kinds"
 complete -c uringwalk -n '__uringwalk_word_is explain' -l allow -x -d 'Faults of this kind don\'t count' -a "$kinds"
 complete -c uringwalk -n '__uringwalk_word_is explore' -l kind -x -d 'Look for this kind alone' -a "$kinds"

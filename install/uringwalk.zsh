@@ -59,7 +59,7 @@ _uringwalk() {
       _arguments $usage \
         "*--kind=[findings of this kind alone]:kind:($kinds)" \
         "*--allow=[faults of this kind don't count for the status]:kind:($kinds)" \
-        '--json[print JSON]' '*:script or trace:_files'
+        '(--sarif)--json[print JSON]' '(--json)--sarif[print a SARIF log]' '*:script or trace:_files'
       ;;
     timeline)
       _arguments $usage "$from" "$to" \
