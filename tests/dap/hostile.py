@@ -60,7 +60,7 @@ def lost_framing(checks):
 
 
 def no_requests(checks):
-    """What is no request of JSON is refused with the number 0; what nobody asked for is ignored. Both go on."""
+    """What is no request of JSON is refused with the number 0; responses and events are ignored. Both continue."""
     deep = b'{"seq":2,"x":' + b"[" * 200 + b"]" * 200 + b"}"
     for name, body in {"no JSON": b"{]", "nothing": b"", "half a text": b'{"seq": 2', "bytes": b"\xff\xfe", "nesting": deep,
                        "a list": b"[1]", "a number": b"7", "null": b"null"}.items():
@@ -190,8 +190,8 @@ def limited(megabytes):
     return lambda: resource.setrlimit(resource.RLIMIT_AS, (megabytes * MIB, megabytes * MIB))
 
 
-def want_of_memory(checks, run, small):
-    """A launch that finds no memory is refused, and another may follow."""
+def out_of_memory(checks, run, small):
+    """A launch that runs out of memory is refused, and another may follow."""
     asked = [request(1, "initialize", **INITIALIZE), request(2, "launch", **run.launch()), request(3, "launch", **small.launch()),
              request(4, "configurationDone"), request(5, "disconnect")]
     refused = 0
@@ -205,4 +205,4 @@ def want_of_memory(checks, run, small):
             break
         refused += 1
         checks.same(f"{megabytes} MiB: another launch", (found.get(3), found.get(5), ran.returncode), (True, True, 0))
-    checks.same("some launch finds no memory", refused > 0, True)
+    checks.same("some launch runs out of memory", refused > 0, True)

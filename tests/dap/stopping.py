@@ -131,9 +131,10 @@ def findings(checks, adapter, run):
         for at in sorted({*moments} - {0}):
             stopped, _ = adapter.move("continue", threadId=RUN)
             here = [it for it in wanted if it["moment"] == at]
-            checks.same("the text of an exception", stopped.get("text") in [it["text"] for it in here], True)
+            checks.same(f"{filters}: the text of an exception at {at}", stopped.get("text"), here[0]["text"])
             info = adapter.body("exceptionInfo", threadId=RUN)
-            checks.same("the kind of an exception", info["exceptionId"] in [it["kind"] for it in run.findings], True)
+            checks.same(f"{filters}: the exception at {at}", (info["exceptionId"], info.get("description")),
+                        (here[0]["kind"], here[0]["text"]))
     adapter.body("setExceptionBreakpoints", filters=[])
 
 

@@ -62,7 +62,9 @@ def whole(checks, adapter, run):
 
 
 def jump(checks, adapter, moment):
-    """Goes to a moment by a line of the console."""
+    """Goes to a moment by a line of the console. One that stays at its position sends no event."""
+    if adapter.moment() == moment:
+        return
     adapter.events.clear()
     adapter.body("evaluate", expression=f"goto {moment}", context="repl")
     adapter.event("continued")
@@ -155,7 +157,7 @@ def all_scopes(checks, adapter, run, moment):
 
 
 def changes_scope(checks, adapter, run, moment):
-    """Holds that the scope Changes lists what the event just stepped changed."""
+    """Holds that the scope Changes lists what the last event changed."""
     jump(checks, adapter, moment)
     scope = scopes(adapter, frames(adapter, run)["run"]["id"])["Changes"]
     names = [it["name"] for it in variables(adapter, scope["variablesReference"])]
