@@ -191,7 +191,7 @@ def limited(megabytes):
 
 
 def out_of_memory(checks, run, small):
-    """A launch that runs out of memory is refused, and another may follow."""
+    """A launch without enough memory fails, and another may follow."""
     asked = [request(1, "initialize", **INITIALIZE), request(2, "launch", **run.launch()), request(3, "launch", **small.launch()),
              request(4, "configurationDone"), request(5, "disconnect")]
     refused = 0

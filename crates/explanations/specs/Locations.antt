@@ -17,7 +17,7 @@ last_event moment schedule = min moment (length schedule - 1)
 pub record IsOfInstruction (map : SourceMap) (item : Item) : Type 0 where
   pub thread : ℕ
   pub index : ℕ
-  pub item : option_and_then (λ program. slice_get program index) (slice_get map.threads thread) ≡ Some item
+  pub there : option_and_then (λ program. slice_get program index) (slice_get map.threads thread) ≡ Some item
 
 -- The place of a finding: an instruction, or the event of its moment.
 abbrev pub IsOf : SourceMap → ℕ → Item → Type 0
