@@ -63,9 +63,11 @@ class Held:
 class Adapter:
     """A running adapter. `events` are those that came and that nobody has taken."""
 
-    def __init__(self, folder=None):
+    succeeded = set()  # the commands of requests that succeeded, of all adapters
+
+    def __init__(self):
         pipe = subprocess.PIPE
-        self.process = subprocess.Popen([PROGRAM, "dap"], stdin=pipe, stdout=pipe, stderr=pipe, cwd=folder)
+        self.process = subprocess.Popen([PROGRAM, "dap"], stdin=pipe, stdout=pipe, stderr=pipe)
         self.held, self.sent, self.data, self.waiting, self.events = Held(), 0, b"", [], []
         self.selector = selectors.DefaultSelector()
         self.selector.register(self.process.stdout, selectors.EVENT_READ)
@@ -114,6 +116,8 @@ class Adapter:
         while True:
             message = self.receive()
             if message["type"] == "response" and message["request_seq"] == number:
+                if message["success"]:
+                    self.succeeded.add(message["command"])
                 return message
             self.events.append(message)
 
@@ -153,9 +157,9 @@ class Adapter:
             output = message["body"]["output"] if message["event"] == "output" else output
         return message["body"], output
 
-    def start(self, **arguments):
+    def start(self, from_1=True, **arguments):
         """Opens a session, and launches. Returns the response to `initialize`, and that to `launch` if it is refused."""
-        made = self.ask("initialize", adapterID="uringwalk", linesStartAt1=True, columnsStartAt1=True, pathFormat="path")
+        made = self.ask("initialize", adapterID="uringwalk", linesStartAt1=from_1, columnsStartAt1=from_1, pathFormat="path")
         launched = self.send("launch", arguments)
         message = self.receive()
         if message["type"] == "response":
@@ -171,6 +175,7 @@ class Adapter:
         response = self.receive()
         if response.get("request_seq") != self.launched or not response["success"]:
             raise Failure(f"not the answer to launch: {response}")
+        self.succeeded.add("launch")
         return self.event("stopped")["body"]
 
     def value(self, expression):
@@ -194,7 +199,7 @@ class Adapter:
         return wrong
 
 
-def converse(data, folder=None):
+def converse(data):
     """Has an adapter read bytes, and returns the bytes that it writes, those on standard error, and its status."""
-    ran = subprocess.run([PROGRAM, "dap"], input=data, capture_output=True, timeout=SECONDS, cwd=folder)
+    ran = subprocess.run([PROGRAM, "dap"], input=data, capture_output=True, timeout=SECONDS)
     return ran.stdout, ran.stderr, ran.returncode

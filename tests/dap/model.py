@@ -26,6 +26,12 @@ def example(name):
         return json.load(it)
 
 
+def commands():
+    """Returns the commands of the requests that the adapter knows."""
+    with open(f"{TOP}/crates/dap_messages/src/command.rt", encoding="utf-8") as it:
+        return re.findall(r'Command::\w+ => "(\w+)"', it.read())
+
+
 def long_script():
     """Returns a script of 65,536 events: cycles of a NOP by one thread after the other, and ticks at the end."""
     threads, schedule = [[]], []

@@ -1,5 +1,4 @@
 """Where runs of an editor stop: breakpoints of each kind, findings, targets, and lines of the console."""
-import json
 
 from adapter import RUN
 from walking import jump
@@ -31,13 +30,6 @@ def runs_through(checks, adapter, run, name, above, below, reason):
 
 def verified(checks, name, body, wanted):
     checks.same(f"{name}: verified", [it["verified"] for it in body["breakpoints"]], wanted)
-
-
-def line_of(run, item, among):
-    """Returns the line of an item's text, the first or the last one."""
-    text = json.dumps(item)
-    lines = [number for number, line in enumerate(run.source, 1) if line.strip().rstrip(",") == text]
-    return lines[among]
 
 
 def line_of_event(run, index):

@@ -1,5 +1,6 @@
 """What an editor sees as it goes forward and back through a run."""
 import base64
+import json
 
 from adapter import LARGEST, RUN
 
@@ -31,6 +32,9 @@ def held(checks, adapter, name, moment, places):
     checks.same(f"{name}: the position", adapter.moment(), moment)
     for place, value in places:
         checks.same(f"{name}: {place} at {moment}", adapter.value(place), value)
+    if places:
+        hovered = adapter.body("evaluate", expression=places[0][0], context="hover")["result"]
+        checks.same(f"{name}: {places[0][0]} at {moment}, hovered", hovered, places[0][1])
 
 
 def step(checks, adapter, run, command, to):
@@ -103,7 +107,6 @@ def next_event(run, thread, moment):
 
 def frames_of_script(checks, adapter, run, moments):
     """Holds that a thread's frame is its next instruction, and that of the others their next event."""
-    import json
     counters = run.counters()
     for moment in moments:
         jump(checks, adapter, moment)
