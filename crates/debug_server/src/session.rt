@@ -4,15 +4,16 @@ ghost use Rattle.machine.specs.Runs.{start, Accepts, IsRefused};
 ghost use Rattle.scenario.specs.declared.event.Refusal.{Refusal};
 ghost use Rattle.scenario.specs.Setups.{setup_refusal};
 ghost use Rattle.scenario.specs.declared.setup.Setup.{Setup};
-ghost use Rattle.inverse_log.specs.Walks.{ending, fresh, moved, extended};
+ghost use Rattle.inverse_log.specs.Walks.{ending, fresh, moved, jumped, extended};
 ghost use Rattle.debug_server.specs.Kinds.{IsOf, OfSchedule, OfMemory};
 ghost use Rattle.debug_server.specs.Replies.{reply};
 ghost use Rattle.debug_server.specs.Schedules.{state_over, StopsBy, fault_of};
-ghost use Rattle.debug_server.specs.SessionStates.{Runs, without_stops};
+ghost use Rattle.debug_server.specs.SessionStates.{Runs, walked_to, without_stops};
 
 use crate::answering;
 use crate::faults::RunFault;
 use crate::running::fault_by;
+use crate::stops::jump_to;
 use crate::visitor::Visitor;
 use inverse_log::{ExtendRefusal, Walker};
 use machine::{Event, Setup};
@@ -88,6 +89,26 @@ impl Session {
             Ok(walker) => Ok(over_walk(alloc, walker)),
             Err(_) => Err(RunFault::Memory),
         }
+    }
+
+    /// Returns the walk.
+    pub fn walker(&self) -> &Walker
+        ensures { result.now ≡ self.now.state.walk }
+    {
+        &self.visitor.walker
+    }
+
+    /// Jumps to a moment, as `goto` does. An `Err` changes nothing.
+    pub fn jump(&mut self, moment: usize) -> Result<(), AllocError>
+        requires { moment ≤ length self.old.state.walk.events }
+        ensures moved { OnOk result (self.new
+            ≡ record {
+              state = walked_to self.old.state (jumped self.old.state.walk moment);
+              is_closed = self.old.is_closed;
+            }) }
+        ensures err { OnErr result (self.new ≡ self.old) }
+    {
+        jump_to(&mut self.visitor.walker, moment)
     }
 
     /// Replies to one line. An `Err` changes nothing. Only `sync` uses `answer`, the source's

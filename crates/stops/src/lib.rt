@@ -9,5 +9,5 @@ mod steps;
 
 pub use landing::{Cause, Landing, Marks, backward, forward};
 pub use moments::Moments;
-pub use sites::{Site, breakpoints, moments_before};
-pub use steps::{EditorThread, next_stop, previous_stop};
+pub use sites::{Site, breakpoints, moments_before, record_of};
+pub use steps::{EditorThread, is_event_of, next_stop, previous_stop};

@@ -25,8 +25,8 @@ pub enum Site {
     Instruction(u32, u32),
 }
 
-// Returns the undo record of the event after a moment.
-fn record_of(walker: &Walker, moment: usize) -> &Record
+/// Returns the undo record of the event after a moment.
+pub fn record_of(walker: &Walker, moment: usize) -> &Record
     requires { moment < length walker.now.events }
     ensures { Exact (view (at_moment walker.now.setup walker.now.events moment))
         (view (at_moment walker.now.setup walker.now.events (moment + 1))) result.now }

@@ -17,8 +17,8 @@ pub enum EditorThread {
     Kernel,
 }
 
-// Returns whether an event is a step of a thread.
-fn is_event_of(thread: EditorThread, event: Event) -> bool
+/// Returns whether an event is a step of a thread.
+pub fn is_event_of(thread: EditorThread, event: Event) -> bool
     ensures { result ≡ is_event_of thread event }
 {
     match (thread, event) {

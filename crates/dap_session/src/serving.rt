@@ -1,0 +1,137 @@
+//! The loop that reads messages, answers them, and writes the answers.
+
+use crate::adapter::Adapter;
+use crate::outbox::Outbox;
+use dap_frames::{Decoder, FrameFault};
+use std::alloc::Global;
+use std::io::{Read, Write};
+use std::mem;
+use std::rt::Files;
+use whole_files::write_out;
+
+/// Why a session ended early.
+#[derive(Clone, Copy)]
+pub enum SessionFault {
+    /// A read failed.
+    Read,
+    /// A write or a flush failed, or a write accepted no bytes.
+    Write,
+    /// An allocation failed.
+    Memory,
+    /// The input isn't a sequence of messages.
+    Frame(FrameFault),
+}
+
+/// What is kept between reads.
+#[derive(Drop)]
+struct Serving {
+    adapter: Adapter,
+    decoder: Decoder,
+    outbox: Outbox,
+}
+
+// Writes the messages of the outbox.
+fn flush<W: Write>(outbox: &mut Outbox, writer: &mut W) -> Result<(), SessionFault> {
+    match write_out(writer, outbox.bytes()) {
+        Ok(()) => {
+            outbox.clear();
+            Ok(())
+        }
+        Err(_) => Err(SessionFault::Write),
+    }
+}
+
+impl Serving {
+    fn new(alloc: Global) -> Serving {
+        Serving {
+            adapter: Adapter::new(alloc),
+            decoder: Decoder::new(alloc),
+            outbox: Outbox::new(alloc),
+        }
+    }
+
+    // Answers a message. Returns whether the session ends.
+    fn answer<W: Write>(
+        &mut self,
+        rt: &(impl Files + AllocGlobal),
+        body: &[u8],
+        writer: &mut W,
+    ) -> Result<bool, SessionFault> {
+        let Ok(answer) = self.adapter.answer(rt, body) else {
+            return Err(SessionFault::Memory);
+        };
+        let Ok(ends) = self.outbox.post(answer) else {
+            return Err(SessionFault::Memory);
+        };
+        flush(&mut self.outbox, writer)?;
+        Ok(ends)
+    }
+
+    // Answers messages up to one that ends the session. Returns whether there was one.
+    fn answer_all<W: Write>(
+        &mut self,
+        rt: &(impl Files + AllocGlobal),
+        bodies: &[Vec<u8>],
+        writer: &mut W,
+    ) -> Result<bool, SessionFault> {
+        for body in bodies {
+            if self.answer(rt, body.as_slice(), writer)? {
+                return Ok(true);
+            }
+        }
+        Ok(false)
+    }
+
+    // Answers the messages that end in a piece of the input. Returns whether one ended the session.
+    fn take<W: Write>(
+        &mut self,
+        rt: &(impl Files + AllocGlobal),
+        piece: &[u8],
+        writer: &mut W,
+    ) -> Result<bool, SessionFault> {
+        let mut bodies = Vec::new(rt.alloc());
+        let fed = self.decoder.feed(&mut bodies, piece);
+        let ends = self.answer_all(rt, bodies.as_slice(), writer)?;
+        match fed {
+            Ok(()) => Ok(ends),
+            Err(_) if ends => Ok(true),
+            Err(FrameFault::Memory) => Err(SessionFault::Memory),
+            Err(fault) => Err(SessionFault::Frame(fault)),
+        }
+    }
+
+    // Answers messages up to the end of the input, or to one that ends the session.
+    fn run<R: Read, W: Write>(
+        &mut self,
+        rt: &(impl Files + AllocGlobal),
+        reader: &mut R,
+        writer: &mut W,
+    ) -> Result<(), SessionFault> {
+        let mut buffer = [0u8; 4096];
+        for _ in 0..u64::MAX {
+            let Ok(count) = reader.read(&mut buffer) else {
+                return Err(SessionFault::Read);
+            };
+            if count == 0 {
+                return Ok(());
+            }
+            if self.take(rt, &buffer[..count], writer)? {
+                return Ok(());
+            }
+        }
+        Err(SessionFault::Read)
+    }
+}
+
+/// Serves an editor: answers its messages up to the end of the input, or to `disconnect`. The
+/// program ends after that, so that the run is forgotten, and not freed record by record.
+pub fn serve<R: Read, W: Write>(
+    rt: &(impl Files + AllocGlobal),
+    reader: &mut R,
+    writer: &mut W,
+) -> Result<(), SessionFault> {
+    let mut serving = Serving::new(rt.alloc());
+    let served = serving.run(rt, reader, writer);
+    mem::forget(serving);
+    served
+}

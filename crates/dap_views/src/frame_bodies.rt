@@ -1,0 +1,141 @@
+//! Frames as JSON, in the protocol's member names.
+ghost use Rattle.std.specs.Prelude.{◌≡◌, IfOk, OnOk, option_map, map};
+ghost use Rattle.std.specs.Option.{option_to_list};
+ghost use Rattle.serde_json.specs.View.{members_view, view};
+ghost use Rattle.dap_views.specs.Bodies.{counted, frame_data, stack_body, with_end, with_range, with_source, with_start};
+
+use crate::frames::{Frame, SourceRange};
+use crate::json::{Members, put_list, put_member, put_number, put_text};
+use crate::threads::thread_id;
+use dap_messages::InitializeArguments;
+use machine::Setup;
+use serde_json::{Map, Value};
+use source_map::Position;
+use std::alloc::{AllocError, Global};
+
+fn counted(number: usize, from_1: bool) -> u64
+    ensures { result ≡ counted from_1 number }
+{
+    if from_1 {
+        number as u64
+    } else {
+        number.saturating_sub(1) as u64
+    }
+}
+
+// Adds the first line and column. Without a source both are 0.
+fn put_start(
+    alloc: Global,
+    members: &mut Members,
+    range: Option<SourceRange>,
+    client: InitializeArguments,
+) -> Result<(), AllocError>
+    ensures { OnOk result (members_view members.new.entries
+        ≡ with_start client range (members_view members.old.entries)) }
+{
+    let (line, column) = match range {
+        Some(range) => (
+            counted(range.start.line, client.lines_start_at_1),
+            counted(range.start.column, client.columns_start_at_1),
+        ),
+        None => (0, 0),
+    };
+    put_number(alloc, members, "line", line)?;
+    put_number(alloc, members, "column", column)
+}
+
+// Adds the line and the column of the end, if there is one.
+fn put_end(
+    alloc: Global,
+    members: &mut Members,
+    end: Option<Position>,
+    client: InitializeArguments,
+) -> Result<(), AllocError>
+    ensures { OnOk result (members_view members.new.entries
+        ≡ with_end client end (members_view members.old.entries)) }
+{
+    let Some(end) = end else {
+        return Ok(());
+    };
+    let line = counted(end.line, client.lines_start_at_1);
+    let column = counted(end.column, client.columns_start_at_1);
+    put_number(alloc, members, "endLine", line)?;
+    put_number(alloc, members, "endColumn", column)
+}
+
+// Adds where a frame is in its source.
+fn put_range(
+    alloc: Global,
+    members: &mut Members,
+    range: Option<SourceRange>,
+    client: InitializeArguments,
+) -> Result<(), AllocError>
+    ensures { OnOk result (members_view members.new.entries
+        ≡ with_range client range (members_view members.old.entries)) }
+{
+    put_start(alloc, members, range, client)?;
+    match range {
+        Some(range) => put_end(alloc, members, range.end, client),
+        None => Ok(()),
+    }
+}
+
+// Adds the source, and where in it the frame is.
+fn put_source(
+    alloc: Global,
+    members: &mut Members,
+    frame: &Frame,
+    source: Option<Value>,
+    client: InitializeArguments,
+) -> Result<(), AllocError>
+    ensures { OnOk result (members_view members.new.entries
+        ≡ with_source client frame.now (option_map view source) (members_view members.old.entries)) }
+{
+    match source {
+        Some(source) => {
+            put_member(alloc, members, "source", source)?;
+            put_range(alloc, members, frame.range, client)
+        }
+        None => put_start(alloc, members, None, client),
+    }
+}
+
+/// Returns a frame as JSON, with the source that it is in, if there is one.
+pub fn frame_value(
+    alloc: Global,
+    setup: &Setup,
+    frame: &Frame,
+    source: Option<Value>,
+    client: InitializeArguments,
+) -> Result<Value, AllocError>
+    ensures { IfOk result (λ v. view v ≡ frame_data client setup.now frame.now (option_map view source)) }
+{
+    let moment = frame.moment;
+    let address = format!(in alloc; "{moment}")?;
+    let mut members = Map::new(alloc);
+    put_number(alloc, &mut members, "id", thread_id(setup, frame.thread))?;
+    put_text(alloc, &mut members, "name", frame.name.as_slice())?;
+    put_text(
+        alloc,
+        &mut members,
+        "instructionPointerReference",
+        address.as_bytes(),
+    )?;
+    put_source(alloc, &mut members, frame, source, client)?;
+    Ok(Value::Object(members))
+}
+
+/// Returns the body of the response to `stackTrace`: the frame of a thread, or none if it is not on
+/// the requested page.
+pub fn stack_body(alloc: Global, frame: Option<Value>) -> Result<Value, AllocError>
+    ensures { IfOk result (λ v. view v ≡ stack_body (option_to_list (option_map view frame))) }
+{
+    let mut list = Vec::new(alloc);
+    if let Some(frame) = frame {
+        list.push(frame)?;
+    }
+    let mut members = Map::new(alloc);
+    put_list(alloc, &mut members, "stackFrames", list)?;
+    put_number(alloc, &mut members, "totalFrames", 1)?;
+    Ok(Value::Object(members))
+}

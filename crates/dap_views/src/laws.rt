@@ -1,0 +1,1 @@
+//! Laws of the references of containers, and of the values of places.

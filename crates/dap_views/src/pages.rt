@@ -1,0 +1,84 @@
+//! Pages of the children of a container.
+ghost use Rattle.std.specs.Prelude.{◌≡◌, ◌≤◌, min};
+ghost use Rattle.dap_views.specs.Pages.{excludes};
+ghost use Rattle.dap_views.specs.Windows.{window, window_over};
+
+use crate::container::Container;
+use crate::counts::is_indexed;
+use dap_messages::Filter;
+
+/// How many children a page has if the request doesn't say how many.
+const USUAL: usize = 256;
+
+/// The children of a container that are requested. A count of 0 is the first 256 from `start` on.
+#[derive(Clone, Copy)]
+pub struct Page {
+    pub filter: Filter,
+    pub start: u64,
+    pub count: u64,
+}
+
+/// The children on a page, and how many are after them that the request also meant.
+#[derive(Clone, Copy)]
+pub(crate) struct Window {
+    pub from: usize,
+    pub to: usize,
+    pub rest: usize,
+}
+
+// Returns whether a filter leaves out the children of a container.
+fn excludes(filter: Filter, container: Container) -> bool
+    ensures { result ≡ excludes filter container }
+{
+    match filter {
+        Filter::All => false,
+        Filter::Named => is_indexed(container),
+        Filter::Indexed => !is_indexed(container),
+    }
+}
+
+// Returns a number, or the limit if it is greater.
+fn at_most(number: u64, limit: usize) -> usize
+    ensures value { result ≡ min number limit }
+    ensures most { result ≤ limit }
+{
+    if number < limit as u64 {
+        number as usize
+    } else {
+        limit
+    }
+}
+
+// Returns the window of a page of so many children.
+fn window_over(page: Page, total: usize) -> Window
+    ensures { result ≡ window_over page total }
+{
+    let from = at_most(page.start, total);
+    let after = total - from;
+    if page.count > 0 {
+        return Window {
+            from,
+            to: from + at_most(page.count, after),
+            rest: 0,
+        };
+    }
+    let count = after.min(USUAL);
+    Window {
+        from,
+        to: from + count,
+        rest: after - count,
+    }
+}
+
+/// Returns which of so many children of a container are on a page.
+pub(crate) fn window(container: Container, page: Page, total: usize) -> Window
+    ensures value { result ≡ window container page total }
+    ensures order { result.from ≤ result.to }
+    ensures within { result.to ≤ total }
+{
+    if excludes(page.filter, container) {
+        window_over(page, 0)
+    } else {
+        window_over(page, total)
+    }
+}
