@@ -1,0 +1,5 @@
+pub mod Paging
+pub mod Counted
+pub mod Decoding
+pub mod ShownValues
+pub mod Changed

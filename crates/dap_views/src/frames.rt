@@ -95,13 +95,14 @@ fn instruction_name(
 }
 
 // Returns the index of the next event of a thread.
+#[tactic(auto, using(std::proofs::lemmas::List::take_min), unfolding(crate::specs::Frames::next_event))]
 fn next_event(events: &[Event], thread: EditorThread, at: usize) -> Option<usize>
     requires { at ≤ length events.now }
     ensures value { result ≡ next_event events.now thread at }
     ensures within { IfSome result (λ i. i < length events.now) }
 {
     let after = &events[at..];
-    let near = &after[..after.len().min(AHEAD)];
+    let near = &after[..AHEAD.min(after.len())];
     let index = near.iter().position(|event| is_event_of(thread, *event))?;
     Some(at + index)
 }
@@ -179,7 +180,8 @@ fn instruction_range(
 }
 
 /// Returns the frame of a thread. Without a map, the source has a line for each event.
-pub fn frame(
+#[tactic(auto, unfolding(crate::specs::Frames::frame_of))]
+pub fn frame_of(
     alloc: Global,
     walker: &Walker,
     thread: EditorThread,
