@@ -86,15 +86,27 @@ class Adapter:
         self.process.stdin.write(data)
         self.process.stdin.flush()
 
-    def send(self, command, arguments):
-        """Sends a request, and returns its number."""
+    def framed(self, command, arguments):
+        """Returns the bytes of the next request, which is expected to be sent."""
         self.sent += 1
         message = {"seq": self.sent, "type": "request", "command": command}
         if arguments:
             message["arguments"] = arguments
         self.held.open[self.sent] = command
-        self.write(frame(message))
+        return frame(message)
+
+    def send(self, command, arguments):
+        """Sends a request, and returns its number."""
+        self.write(self.framed(command, arguments))
         return self.sent
+
+    def batch(self, asked):
+        """Sends requests at once, and returns all messages up to the response to the last of them."""
+        self.write(b"".join(self.framed(command, arguments) for command, arguments in asked))
+        found = []
+        while self.held.open:
+            found.append(self.receive())
+        return found
 
     def receive(self):
         """Returns the next message."""

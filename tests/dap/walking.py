@@ -6,6 +6,7 @@ from adapter import LARGEST, RUN
 
 SCOPES = ["Thread", "Rings", "Requests", "Objects", "Memory", "Changes", "Findings"]
 PAGE = 256
+BATCH = 32
 DEEP = 3  # how many levels of variables are opened
 
 
@@ -75,14 +76,37 @@ def jump(checks, adapter, moment):
     checks.same(f"goto {moment}", adapter.event("stopped")["body"]["reason"], "goto")
 
 
-def around(checks, adapter, run, moment, reach):
-    """Goes through the moments around one, forward and back."""
-    first, last = max(0, moment - reach), min(len(run), moment + reach)
-    jump(checks, adapter, first)
-    for to in range(first + 1, last + 1):
-        step(checks, adapter, run, "next", to)
-    for to in range(last - 1, first - 1, -1):
-        step(checks, adapter, run, "stepBack", to)
+def asked_and_wanted(run, command, to):
+    """Returns the requests that step to a moment and show it, and what their answers have, in order."""
+    forward = command != "stepBack"
+    index = to - 1 if forward else to
+    places = [(place, new if forward else old) for place, old, new in run.changes[index]]
+    expressions = [("moment", str(to)), *places]
+    asked = [(command, {"threadId": RUN})]
+    asked += [("evaluate", {"expression": it, "context": "watch"}) for it, _ in expressions]
+    wanted = [command, *([run.logged(index)] if forward else []), "pause" if to in (0, len(run)) else "step"]
+    return asked, wanted + [value for _, value in expressions]
+
+
+def content_of(message):
+    """Returns the value of a response, the text or the reason of an event, or else its command."""
+    body = message.get("body", {})
+    return body.get("result") or body.get("output") or body.get("reason") or message.get("command")
+
+
+def in_batches(checks, adapter, run):
+    """Goes through all moments of a long run, forward and back, with many requests at once."""
+    way = [("next", to) for to in range(1, len(run) + 1)] + [("stepBack", to) for to in range(len(run) - 1, -1, -1)]
+    for start in range(0, len(way), BATCH):
+        asked, wanted = [], []
+        for command, to in way[start:start + BATCH]:
+            requests, answers = asked_and_wanted(run, command, to)
+            asked += requests
+            wanted += answers
+        found = [content_of(it) for it in adapter.batch(asked)]
+        for one, other in zip(found, wanted):
+            checks.same(f"{way[start]}", one, other)
+        checks.same(f"{way[start]}: messages", len(found), len(wanted))
 
 
 def by_threads(checks, adapter, run):
