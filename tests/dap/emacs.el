@@ -5,10 +5,13 @@
       lsp-session-file (expand-file-name "sessions" user-emacs-directory)
       dap-breakpoints-file (expand-file-name "breakpoints" user-emacs-directory)
       dap-auto-configure-features nil
+      dap-ui-locals-expand-depth nil
       create-lockfiles nil
       make-backup-files nil
       enable-local-variables nil
       inhibit-message t)
+;; Debian's lsp-treemacs needs it, and its treemacs doesn't have it.
+(defvar treemacs-text-scale nil)
 (defconst drive-seconds 60)
 (defvar drive-stops 0 "How often the run has stopped.")
 (defvar drive-output "" "The log of the event just stepped.")
@@ -51,22 +54,30 @@
     (drive-show)))
 
 (defun drive-place (place)
-  "Print the value of a place."
+  "Evaluate a place, and print what Emacs shows of it."
   (drive-say "M-x dap-eval RET %s RET" place)
-  (drive-say "  %s" (gethash "result" (dap-request (dap--cur-session) "evaluate" :expression place :context "hover"))))
+  (let (shown)
+    (cl-letf (((symbol-function 'dap-overlays--display-interactive-eval-result)
+               (lambda (value &rest _) (setq shown value))))
+      (dap-eval place)
+      (drive-say "  %s" (drive-wait "value" (lambda () shown))))))
 
-(defun drive-scopes ()
-  "Print the scopes of the frame, and the variables of the first two."
-  (let* ((session (dap--cur-session))
-         (frame (gethash "id" (dap--debug-session-active-frame session)))
-         (scopes (gethash "scopes" (dap-request session "scopes" :frameId frame))))
-    (drive-say "M-x dap-ui-locals RET")
+(defun drive-locals (scopes)
+  "Open the buffer of the scopes, and some of them in it, and print its text."
+  (drive-say "M-x dap-ui-locals RET")
+  (dap-ui-locals)
+  (dap-ui-locals--refresh)
+  (with-current-buffer dap-ui--locals-buffer
     (dolist (scope scopes)
-      (drive-say "  %s" (gethash "name" scope))
-      (when (member (gethash "name" scope) '("Thread" "Changes"))
-        (dolist (it (gethash "variables" (dap-request session "variables" :variablesReference
-                                                      (gethash "variablesReference" scope))))
-          (drive-say "    %s = %s" (gethash "name" it) (gethash "value" it)))))))
+      (drive-say "C-s %s RET TAB" scope)
+      (goto-char (point-min))
+      (search-forward scope)
+      (beginning-of-line)
+      (treemacs-TAB-action))
+    (goto-char (point-min))
+    (forward-line) ; the first line is hidden
+    (dolist (line (split-string (buffer-substring-no-properties (point) (point-max)) "\n" t))
+      (drive-say "%s" line))))
 
 (condition-case wrong
     (progn
@@ -86,7 +97,7 @@
 (drive-command "M-x dap-debug RET uringwalk RET"
                (lambda () (dap-debug (copy-tree (cdr (assoc "uringwalk" dap-debug-template-configurations))))))
 (drive-command "M-x dap-continue RET" (lambda () (call-interactively #'dap-continue)))
-(drive-scopes)
+(drive-locals '("Requests" "Changes"))
 (drive-place "row 2")
 (drive-say "M-x uringwalk-watch RET row 4 RET")
 (uringwalk-watch "row 4")
