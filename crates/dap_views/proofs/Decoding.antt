@@ -1,12 +1,12 @@
 -- Containers by their references, and threads by their numbers.
-use Rattle.std.proofs.Common.{◌≡◌, ℕ, ◌+◌, ◌-◌, ◌*◌, ◌/◌, ◌%◌, ◌<◌, ◌≤◌, ◌==◌, ◌||◌, ◌&&◌, Bool, true, false, nat_lt, cond, refl, sym, ap, ◌∙◌, arith, rules}
-use Rattle.std.specs.Prelude.{Option, Some, None, nat_le}
+use Rattle.std.proofs.Common.{◌≡◌, ℕ, ◌+◌, ◌-◌, ◌*◌, ◌/◌, ◌%◌, ◌<◌, ◌≤◌, ◌==◌, ◌||◌, nat_lt, cond, refl, ap, ◌∙◌, arith}
+use Rattle.std.specs.Prelude.{Option, Some, None}
 use Rattle.std.proofs.lemmas.Bool.Decides.{nat_tests}
 use Rattle.scenario.specs.declared.setup.Setup.{Setup}
 use Rattle.stops.specs.declared.steps.EditorThread.{EditorThread}
 use Rattle.stops.specs.declared.steps.EditorThread.TheVariants as thread
-use Rattle.dap_views.specs.Containers.{container_at, container_of, containers, kind_of, number_of, reference_of}
-use Rattle.dap_views.specs.Threads.{HasThread, kernel_id, poller_id, thread_count, thread_id, thread_of}
+use Rattle.dap_views.specs.Containers.{container_at, container_of, kind_of, number_of, reference_of}
+use Rattle.dap_views.specs.Threads.{HasThread, thread_id, thread_of}
 use Rattle.dap_views.specs.declared.container.Container.{Container}
 use Rattle.dap_views.specs.declared.container.Container.TheVariants.{Thread, Rings, Requests, Objects, Memory, Changes, Findings, Array, Entries, Completions, Backlog, Request, Object, Descriptor, File, Durable, Pipe}
 
