@@ -1,7 +1,6 @@
 -- Variables: what an editor shows of the children of containers.
-use Rattle.std.specs.Prelude.{◌≡◌, ℕ, ◌-◌, ◌<◌, List, [], ◌∷◌, ◌++◌, length, map, filter, slice_get, codes, decimal, string_bytes, nat_lt, ◌||◌, ◌==◌, Bool, Option, Some, None}
+use Rattle.std.specs.Prelude.{◌≡◌, ℕ, ◌-◌, ◌<◌, List, [], ◌++◌, length, map, filter, slice_get, codes, decimal, string_bytes, nat_lt, ◌||◌, ◌==◌, Bool, Option, Some, None}
 use Rattle.std.specs.Option.{option_map_or}
-use Rattle.entries.specs.declared.row.Row.{Row}
 use Rattle.places.specs.View.{Exact}
 use Rattle.places.specs.declared.object.Contents.{Contents}
 use Rattle.places.specs.declared.object.Contents.TheVariants as contents

@@ -1,4 +1,4 @@
-use Rattle.std.proofs.Common.{◌≡◌, ◌∙◌, ap, List, length, map, Bor, rules}
+use Rattle.std.proofs.Common.{◌≡◌, ◌∙◌, ap, length, map, Bor, rules}
 use Rattle.std.proofs.lemmas.Result.{IfOk-weaker}
 use Rattle.std.specs.Prelude.{filter}
 use Rattle.explanations.specs.declared.reporting.Report.{Report}

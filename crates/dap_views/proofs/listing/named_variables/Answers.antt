@@ -1,4 +1,4 @@
-use Rattle.std.proofs.Common.{◌≡◌, ◌∙◌, ap, List, length, map, Bor, rules}
+use Rattle.std.proofs.Common.{◌≡◌, ◌∙◌, length, rules}
 use Rattle.std.proofs.lemmas.Result.{IfOk-weaker}
 use Rattle.dap_views.specs.Children.{named_children}
 use Rattle.dap_views.proofs.Paging.{named_page}
