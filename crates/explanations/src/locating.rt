@@ -39,7 +39,6 @@ fn put_of(run: &Run<'_>, finding: &Finding) -> Option<ThreadStep> {
 
 /// Returns where a finding is in a script: the instruction that put the entry of its request, or
 /// else its event.
-#[tactic(auto, using(crate::proofs::Locations::of_instruction))]
 pub(crate) fn item_of(map: &SourceMap, run: &Run<'_>, finding: &Finding) -> Option<Item>
     ensures { IfSome result (IsOf map.now finding.now.moment) }
 {
