@@ -145,7 +145,6 @@ impl Scan {
 
     fn take(&mut self, text: &[u8], ended: Ended) -> Result<(), AllocError> {
         match ended {
-            Ended::Nothing => Ok(()),
             Ended::Key(span) => {
                 self.key = key_at(self.alloc, text, span)?;
                 Ok(())
@@ -162,10 +161,12 @@ pub fn spans_of(alloc: Global, text: &[u8]) -> Result<Spans, AllocError> {
     let mut scan = Scan::new(alloc);
     let mut walk = Walk::new();
     for (at, byte) in text.iter().enumerate() {
-        let before = walk.read_end(at, *byte);
-        scan.take(text, before)?;
-        let ended = walk.read(at, *byte);
-        scan.take(text, ended)?;
+        if let Some(before) = walk.read_end(at, *byte) {
+            scan.take(text, before)?;
+        }
+        if let Some(ended) = walk.read(at, *byte) {
+            scan.take(text, ended)?;
+        }
     }
     let Scan { spans, .. } = scan;
     Ok(spans)

@@ -21,7 +21,6 @@ enum Within {
 /// What ends at a byte.
 #[derive(Clone, Copy)]
 pub(crate) enum Ended {
-    Nothing,
     Key(Span),
     /// The value of a member of the document.
     Value(Span),
@@ -60,22 +59,22 @@ impl Walk {
     }
 
     // Ends the current value before an offset.
-    fn end(&mut self, end: usize) -> Ended {
+    fn end(&mut self, end: usize) -> Option<Ended> {
         self.within = Within::Plain;
         if self.depth >= LEVELS {
-            return Ended::Nothing;
+            return None;
         }
         let start = self.starts[self.depth];
         let span = Span { start, end };
         match self.depth {
-            1 => if self.is_after_key {
+            1 => Some(if self.is_after_key {
                 Ended::Value(span)
             } else {
                 Ended::Key(span)
-            },
-            2 => Ended::Item(span),
-            3 => Ended::Inner(span),
-            _ => Ended::Nothing,
+            }),
+            2 => Some(Ended::Item(span)),
+            3 => Some(Ended::Inner(span)),
+            _ => None,
         }
     }
 
@@ -86,7 +85,7 @@ impl Walk {
     }
 
     // Reads a byte outside of strings, numbers and words.
-    fn read_plain(&mut self, at: usize, byte: u8) -> Ended {
+    fn read_plain(&mut self, at: usize, byte: u8) -> Option<Ended> {
         match byte {
             b' ' | b'\t' | b'\r' | b'\n' => {}
             b',' => self.set_after_key(false),
@@ -108,22 +107,22 @@ impl Walk {
                 self.within = Within::Scalar;
             }
         }
-        Ended::Nothing
+        None
     }
 
     /// Returns what ends before a byte. Only a number or a word does.
-    pub fn read_end(&mut self, at: usize, byte: u8) -> Ended {
+    pub fn read_end(&mut self, at: usize, byte: u8) -> Option<Ended> {
         if !matches!(self.within, Within::Scalar) {
-            return Ended::Nothing;
+            return None;
         }
         match byte {
             b' ' | b'\t' | b'\r' | b'\n' | b',' | b']' | b'}' => self.end(at),
-            _ => Ended::Nothing,
+            _ => None,
         }
     }
 
     /// Reads the byte at an offset, and returns what ends with it.
-    pub fn read(&mut self, at: usize, byte: u8) -> Ended {
+    pub fn read(&mut self, at: usize, byte: u8) -> Option<Ended> {
         match (self.within, byte) {
             (Within::Plain, _) => return self.read_plain(at, byte),
             (Within::Scalar, _) => {}
@@ -132,6 +131,6 @@ impl Walk {
             (Within::String, b'"') => return self.end(at.saturating_add(1)),
             (Within::String, _) => {}
         }
-        Ended::Nothing
+        None
     }
 }
