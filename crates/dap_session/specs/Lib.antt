@@ -3,3 +3,5 @@ pub mod Moves
 pub mod Owing
 pub mod Adapters
 pub mod Posting
+pub mod Messages
+pub mod Serving

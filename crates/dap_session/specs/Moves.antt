@@ -49,10 +49,10 @@ watched_moment stop.End = None
 -- The moment at which a run stops, forward and back: the nearest breakpoint, finding, or stop of the
 -- data breakpoints, or else an end of the run.
 abbrev pub forward_moment : RunState → ℕ
-forward_moment r = (forward_landing r.marks (watched_moment (forward_stop (walk_of r) r.data)) (walk_of r).at (len_of r)).moment
+forward_moment r = (forward_landing r.marks (watched_moment (forward_stop (walk_of r) r.watches)) (walk_of r).at (len_of r)).moment
 
 abbrev pub backward_moment : RunState → ℕ
-backward_moment r = (backward_landing r.marks (watched_moment (reverse_stop (walk_of r) r.data.watchpoints)) (walk_of r).at).moment
+backward_moment r = (backward_landing r.marks (watched_moment (reverse_stop (walk_of r) r.watches.watchpoints)) (walk_of r).at).moment
 
 -- The run once it is configured: at its start, or where the first run stops.
 abbrev pub started : RunState → Bool → RunState

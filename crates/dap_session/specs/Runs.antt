@@ -8,7 +8,7 @@ use Rattle.stops.specs.declared.landing.Marks.{Marks}
 -- The session of the console, the data breakpoints, and the moments of the other stops.
 pub record RunState : Type 0 where
   pub session : SessionValue
-  pub data : Stops
+  pub watches : Stops
   pub marks : Marks
 
 abbrev pub walk_of : RunState → Walk

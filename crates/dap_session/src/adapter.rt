@@ -1,9 +1,12 @@
 //! The state of a debug adapter, and its answers to messages.
 ghost use Rattle.std.specs.Prelude.{◌≡◌, IfOk, OnOk, OnErr, None, Ok, MatchResult, option_map};
+ghost use Rattle.serde_json.specs.View.{view};
 ghost use Rattle.dap_session.specs.Adapters.{Handles, IsRestarted, Launches, RunReplies, configured, with_run};
+ghost use Rattle.dap_session.specs.Messages.{Answers, AnswersValue, asked_of, nobody};
 ghost use Rattle.dap_session.specs.Moves.{started};
 ghost use Rattle.dap_session.specs.Owing.{Settles, answered, asked_in, outcome_in, outcome_of, owed_by};
 ghost use Rattle.dap_session.specs.Runs.{walk_of};
+ghost use Rattle.dap_session.specs.Serving.{fresh_adapter};
 
 use crate::answer::{Answer, Asked, Events, Reply, Response};
 use crate::base::Base;
@@ -69,17 +72,19 @@ impl Model for Adapter {
     ghost Value = { AdapterState };
 
     ghost view = { λ a. record {
-        phase = a.phase;
-        owed = a.owed;
-        run = a.debuggee;
-        stops_on_entry = a.stops_on_entry;
+      phase = a.phase;
+      owed = a.owed;
+      run = a.debuggee;
+      stops_on_entry = a.stops_on_entry;
     } };
 
     ghost invariant = { λ a. OwesOnlyALaunch a.phase a.owed };
 }
 
 // Returns the number and the command of a message.
-fn asked_in(alloc: Global, message: &Value) -> Result<Asked, AllocError> {
+fn asked_in(alloc: Global, message: &Value) -> Result<Asked, AllocError>
+    ensures { IfOk result (λ asked. asked ≡ asked_of (view message.now)) }
+{
     Ok(Asked {
         seq: seq_in(message),
         command: Text::new(alloc, command_name_in(message).unwrap_or(""))?,
@@ -87,7 +92,9 @@ fn asked_in(alloc: Global, message: &Value) -> Result<Asked, AllocError> {
 }
 
 // Returns the number and the command of a message that can't be read.
-fn nobody(alloc: Global) -> Result<Asked, AllocError> {
+fn nobody(alloc: Global) -> Result<Asked, AllocError>
+    ensures { IfOk result (λ asked. asked ≡ nobody) }
+{
     Ok(Asked {
         seq: 0,
         command: Text::new(alloc, "")?,
@@ -95,7 +102,9 @@ fn nobody(alloc: Global) -> Result<Asked, AllocError> {
 }
 
 impl Adapter {
-    pub(crate) fn new(alloc: Global) -> Adapter {
+    pub(crate) fn new(alloc: Global) -> Adapter
+        ensures { result ≡ fresh_adapter }
+    {
         Adapter {
             alloc,
             phase: Phase::New,
@@ -266,14 +275,13 @@ impl Adapter {
     }
 
     // Returns the program of a restart, and whether it stops at its start.
-    fn restarted(
-        &self,
-        arguments: Option<LaunchArguments>,
-    ) -> Result<(Program, bool), Refusal> {
-        if let Some(LaunchArguments {
-            program,
-            stop_on_entry,
-        }) = arguments
+    fn restarted(&self, arguments: Option<LaunchArguments>) -> Result<(Program, bool), Refusal> {
+        if let Some(
+            LaunchArguments {
+                program,
+                stop_on_entry,
+            },
+        ) = arguments
         {
             return Ok((program, stop_on_entry));
         }
@@ -377,12 +385,7 @@ impl Adapter {
     }
 
     // Answers a request.
-    fn handle(
-        &mut self,
-        rt: &(impl Files + AllocGlobal),
-        asked: Asked,
-        request: Request,
-    ) -> Answer
+    fn handle(&mut self, rt: &(impl Files + AllocGlobal), asked: Asked, request: Request) -> Answer
         ensures settled { Settles self.old.owed asked (answered result) self.new.owed }
         ensures handled { Handles self.old asked request (outcome_in result.first) self.new }
     {
@@ -401,7 +404,10 @@ impl Adapter {
         &mut self,
         rt: &(impl Files + AllocGlobal),
         message: &Value,
-    ) -> Result<Answer, AllocError> {
+    ) -> Result<Answer, AllocError>
+        ensures ok { IfOk result (λ a. AnswersValue self.old (view message.now) a self.new) }
+        ensures err { OnErr result (self.new ≡ self.old) }
+    {
         match read_request(self.alloc, message) {
             Ok(request) => {
                 let asked = asked_in(self.alloc, message)?;
@@ -420,7 +426,10 @@ impl Adapter {
         &mut self,
         rt: &(impl Files + AllocGlobal),
         body: &[u8],
-    ) -> Result<Answer, AllocError> {
+    ) -> Result<Answer, AllocError>
+        ensures ok { IfOk result (λ a. Answers self.old body.now a self.new) }
+        ensures err { OnErr result (self.new ≡ self.old) }
+    {
         match Value::from_slice(self.alloc, body) {
             Ok(message) => self.answer_message(rt, &message),
             Err(error) if error.is_memory() => Err(AllocError),

@@ -15,9 +15,36 @@ const VERBS: [&str; 11] = [
 
 /// The first words of places.
 const PLACES: [&str; 30] = [
-    "array", "backlog", "bfront", "clock", "counted", "cq.head", "cq.tail", "cqe", "dlen",
-    "durable", "event", "file", "got", "last", "len", "mem", "open", "pc", "pipe", "poller", "pos",
-    "put", "row", "slot", "sq.dropped", "sq.flags", "sq.head", "sq.tail", "stage", "taken",
+    "array",
+    "backlog",
+    "bfront",
+    "clock",
+    "counted",
+    "cq.head",
+    "cq.tail",
+    "cqe",
+    "dlen",
+    "durable",
+    "event",
+    "file",
+    "got",
+    "last",
+    "len",
+    "mem",
+    "open",
+    "pc",
+    "pipe",
+    "poller",
+    "pos",
+    "put",
+    "row",
+    "slot",
+    "sq.dropped",
+    "sq.flags",
+    "sq.head",
+    "sq.tail",
+    "stage",
+    "taken",
 ];
 
 // Returns the part of a text before a column that counts from 1.
@@ -41,7 +68,7 @@ fn add_words(
     Ok(())
 }
 
-// Returns a word that replaces so many bytes before the column.
+// Returns a word that replaces some bytes before the column.
 fn target(alloc: Global, word: &str, length: usize) -> Result<Value, AllocError> {
     let mut members = Members::new(alloc);
     members.text("label", word)?;

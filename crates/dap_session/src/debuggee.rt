@@ -4,7 +4,7 @@ ghost use Rattle.watches.specs.Watchpoints.{nothing};
 ghost use Rattle.dap_session.specs.Runs.{walk_of};
 
 use crate::base::Base;
-use crate::wanted::Wanted;
+use crate::wanted::{Wanted, stops_at};
 use dap_messages::{Program, Text};
 use debug_server::Session;
 use explanations::{Report, reports_of};
@@ -54,6 +54,10 @@ impl Drop for Debuggee {
     }
 }
 
+fn is_at(report: &Report, moment: usize) -> bool {
+    report.finding.moment as usize == moment
+}
+
 // Runs a run again, and returns its findings.
 fn reports_on(alloc: Global, walker: &Walker) -> Result<Vec<Report>, AllocError> {
     let (setup, events) = (walker.setup(), walker.events());
@@ -78,7 +82,7 @@ impl Model for Debuggee {
 
     ghost Value = { RunState };
 
-    ghost view = { λ d. record { session = d.session; data = d.watches; marks = d.marks } };
+    ghost view = { λ d. record { session = d.session; watches = d.watches; marks = d.marks } };
 }
 
 impl Debuggee {
@@ -92,7 +96,7 @@ impl Debuggee {
     ) -> Debuggee
         ensures { result ≡ record {
             session = session;
-            data = nothing;
+            watches = nothing;
             marks = record { breakpoints = []; findings = [] };
         } }
     {
@@ -145,10 +149,14 @@ impl Debuggee {
         }
     }
 
-    /// Returns the first finding at a moment, if the run was searched.
+    /// Returns the first finding at a moment, if the run was searched: of those at which the editor
+    /// stops, if there is one.
     pub(crate) fn report_at(&self, moment: usize) -> Option<&Report> {
-        self.reports()
+        let filters = self.wanted.filters.as_slice();
+        let wanted = self
+            .reports()
             .iter()
-            .find(|report| report.finding.moment as usize == moment)
+            .find(|report| is_at(report, moment) && stops_at(filters, report));
+        wanted.or(self.reports().iter().find(|report| is_at(report, moment)))
     }
 }

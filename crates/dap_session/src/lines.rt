@@ -132,12 +132,7 @@ fn is_between(item: Located, first: Wish, last: Wish) -> bool {
 }
 
 // Adds an item, if it starts in a range.
-fn add(
-    list: &mut Vec<Located>,
-    item: Located,
-    first: Wish,
-    last: Wish,
-) -> Result<(), AllocError> {
+fn add(list: &mut Vec<Located>, item: Located, first: Wish, last: Wish) -> Result<(), AllocError> {
     if is_between(item, first, last) {
         list.push(item)?;
     }
@@ -153,7 +148,12 @@ fn add_instructions(
 ) -> Result<(), AllocError> {
     let mut index: u32 = 0;
     for item in items {
-        add(list, placed(Site::Instruction(thread, index), *item), first, last)?;
+        add(
+            list,
+            placed(Site::Instruction(thread, index), *item),
+            first,
+            last,
+        )?;
         index = index.saturating_add(1);
     }
     Ok(())

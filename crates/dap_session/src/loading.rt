@@ -70,11 +70,7 @@ fn file_refusal(alloc: Global, path: &str, fault: FileFault) -> Refusal {
 }
 
 // Opens a session over events, at the start.
-fn session_at_start(
-    alloc: Global,
-    setup: &Setup,
-    events: &[Event],
-) -> Result<Session, RunFault>
+fn session_at_start(alloc: Global, setup: &Setup, events: &[Event]) -> Result<Session, RunFault>
     requires starts { setup_refusal setup.now ≡ None }
     requires most { length events.now ≤ 1048576 }
     ensures { IfOk result (λ session. session.state.walk.at ≡ 0) }
@@ -109,11 +105,7 @@ fn read_text(alloc: Global, text: &[u8]) -> Result<(Session, Option<SourceMap>),
     open_script(alloc, text, &script)
 }
 
-fn load_script(
-    rt: &(impl Files + AllocGlobal),
-    base: Base,
-    path: Text,
-) -> Result<Debuggee, Refusal>
+fn load_script(rt: &(impl Files + AllocGlobal), base: Base, path: Text) -> Result<Debuggee, Refusal>
     ensures { IfOk result (λ run. (walk_of run).at ≡ 0) }
 {
     let alloc = rt.alloc();
@@ -185,11 +177,7 @@ fn read_trace(alloc: Global, path: &str, bytes: &[u8]) -> Result<Session, Refusa
     }
 }
 
-fn load_trace(
-    rt: &(impl Files + AllocGlobal),
-    base: Base,
-    path: Text,
-) -> Result<Debuggee, Refusal>
+fn load_trace(rt: &(impl Files + AllocGlobal), base: Base, path: Text) -> Result<Debuggee, Refusal>
     ensures { IfOk result (λ run. (walk_of run).at ≡ 0) }
 {
     let alloc = rt.alloc();

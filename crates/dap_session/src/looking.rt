@@ -7,8 +7,8 @@ use crate::members::{Members, object_of};
 use crate::refusal::{Reason, Refusal};
 use dap_messages::{DataBreakpointInfoArguments, StackTraceArguments, VariablesArguments};
 use dap_views::{
-    Container, Page, container_of, evaluate, evaluate_body, frame_of, frame_value, place_named, scopes_body,
-    stack_body, threads_body, variables, variables_body,
+    Container, Page, container_of, evaluate, evaluate_body, frame_of, frame_value, place_named,
+    scopes_body, stack_body, threads_body, variables, variables_body,
 };
 use machine::Event;
 use serde_json::Value;

@@ -149,12 +149,7 @@ impl Debuggee {
 
     // Moves to a moment, if the run has it. All but the log of the last event is built before, so
     // that a failed allocation changes nothing.
-    fn go(
-        &mut self,
-        moment: usize,
-        body: Option<Value>,
-        stopped: Value,
-    ) -> Result<Reply, Refusal>
+    fn go(&mut self, moment: usize, body: Option<Value>, stopped: Value) -> Result<Reply, Refusal>
         ensures moved { OnOk result (self.new ≡ gone_to self.old moment) }
         ensures err { OnErr result (self.new ≡ self.old) }
     {
@@ -218,14 +213,18 @@ impl Debuggee {
         self.step_to(thread, moment)
     }
 
-    /// Goes on by one event, or to a target.
+    /// Steps forward by one event, or to a target.
     pub(crate) fn step_in(&mut self, arguments: StepArguments) -> Result<Reply, Refusal>
         ensures moved { OnOk result (self.new ≡ gone_to self.old (inner_moment self.old arguments)) }
         ensures err { OnErr result (self.new ≡ self.old) }
     {
         let thread = self.thread(arguments.thread)?;
         let Some(target) = arguments.target else {
-            let moment = next_stop(self.walker().events(), EditorThread::Run, self.walker().at());
+            let moment = next_stop(
+                self.walker().events(),
+                EditorThread::Run,
+                self.walker().at(),
+            );
             return self.step_to(thread, moment);
         };
         self.step_to(thread, target as usize)

@@ -84,8 +84,8 @@ impl Outbox {
     // Adds a frame, and counts it.
     fn add(&mut self, frame: &str) -> Result<(), AllocError>
         ensures { OnOk result (self.new ≡ record {
-            next = self.old.next + 1;
-            bytes = self.old.bytes ++ frame.now;
+          next = self.old.next + 1;
+          bytes = self.old.bytes ++ frame.now;
         }) }
     {
         let Some(next) = self.next.checked_add(1) else {
@@ -162,11 +162,15 @@ impl Outbox {
         }
     }
 
-    // Adds an event without a body, if it is wanted.
-    fn tell_if(&mut self, is_wanted: bool, name: &str) -> Result<(), AllocError>
-        ensures { OnOk result (TellsIf is_wanted self.old name.now self.new) }
+    // Adds an event without a body, if `is_due`.
+    fn tell_if(&mut self, is_due: bool, name: &str) -> Result<(), AllocError>
+        ensures { OnOk result (TellsIf is_due self.old name.now self.new) }
     {
-        if is_wanted { self.tell(name, None) } else { Ok(()) }
+        if is_due {
+            self.tell(name, None)
+        } else {
+            Ok(())
+        }
     }
 
     fn tell_all(&mut self, events: Events) -> Result<(), AllocError>
@@ -181,7 +185,8 @@ impl Outbox {
         self.tell_if(initialized, "initialized")?;
         self.tell_of("continued", continued)?;
         self.tell_of("output", output)?;
-        self.tell_of("stopped", stopped)
+        self.tell_of("stopped", stopped)?;
+        Ok(())
     }
 
     fn respond_if_any(&mut self, answer: Option<Response>) -> Result<(), AllocError>
@@ -195,7 +200,8 @@ impl Outbox {
 
     /// Adds the messages of an answer. Returns whether the session ends.
     pub(crate) fn post(&mut self, answer: Answer) -> Result<bool, AllocError>
-        ensures { OnOk result (Posts self.old answer self.new) }
+        ensures posted { OnOk result (Posts self.old answer self.new) }
+        ensures ends { IfOk result (λ ends. ends ≡ answer.ends) }
     {
         let Answer {
             first,

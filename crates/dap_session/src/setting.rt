@@ -3,12 +3,12 @@ ghost use Rattle.std.specs.Prelude.{◌≡◌, OnErr};
 
 use crate::answer::Reply;
 use crate::breakpoints::{Lines, moment_of, moments_of, name_of};
+use crate::conditions::value_of;
 use crate::debuggee::Debuggee;
 use crate::members::object_of;
-use crate::conditions::value_of;
 use crate::refusal::Refusal;
 use crate::verdicts::{unverified, verified, verified_at};
-use crate::wanted::Wanted;
+use crate::wanted::{Wanted, stops_at};
 use dap_messages::{
     DataBreakpoint, ExceptionFilter, FunctionBreakpoint, InstructionBreakpoint,
     SetBreakpointsArguments, Source, SourceBreakpoint,
@@ -163,7 +163,7 @@ fn set_data(
     Ok(None)
 }
 
-/// Returns the data breakpoints that are wanted, and what a response says about each.
+/// Returns the data breakpoints that are requested, and what a response says about each.
 pub(crate) fn data_of(
     alloc: Global,
     walker: &Walker,
@@ -180,15 +180,6 @@ pub(crate) fn data_of(
     }
     let body = object_of(alloc, "breakpoints", verdicts)?;
     Ok((watches, body))
-}
-
-// Returns whether a finding is one at which a run stops.
-fn stops_at(filters: &[ExceptionFilter], report: &Report) -> bool {
-    let is_fault = report.finding.kind.is_fault();
-    filters.iter().any(|filter| match filter {
-        ExceptionFilter::Faults => is_fault,
-        ExceptionFilter::Notes => !is_fault,
-    })
 }
 
 /// Returns the moments of the findings at which a run stops.

@@ -15,8 +15,8 @@ use dap_views::place_named;
 use places::{Place, Value as PlaceValue};
 use script::EventText;
 use serde_json::Value;
-use stops::{Site, moments_before};
 use std::alloc::{AllocError, Global};
+use stops::{Site, moments_before};
 
 /// How many instructions, targets or bytes a response has at most.
 const MOST: usize = 4096;
@@ -164,7 +164,10 @@ impl Debuggee {
             return Err(Refusal::Reason(Reason::NoSource));
         }
         let mut targets = Vec::new(self.alloc);
-        if let Some(located) = self.lines().find(self.base.wish(arguments.line, arguments.column)) {
+        if let Some(located) = self
+            .lines()
+            .find(self.base.wish(arguments.line, arguments.column))
+        {
             for moment in &self.moments_at(located.site)? {
                 if targets.len() < MOST {
                     targets.push(self.goto_target(*moment, located)?)?;
@@ -196,12 +199,10 @@ impl Debuggee {
         members.text("address", text.as_str())?;
         let Ok(moment) = usize::try_from(address) else {
             members.text("instruction", "no event")?;
-            members.text("presentationHint", "invalid")?;
             return Ok(members.finish());
         };
         let Some(event) = self.walker().events().get(moment) else {
             members.text("instruction", "no event")?;
-            members.text("presentationHint", "invalid")?;
             return Ok(members.finish());
         };
         let name = format!(in self.alloc; "{}", EventText(*event))?;
@@ -231,7 +232,7 @@ impl Debuggee {
         Ok(Reply::of(Some(object_of(self.alloc, "instructions", instructions)?)))
     }
 
-    // Returns the bytes from a place on, at most so many.
+    // Returns the bytes from a place on, at most `count` of them.
     fn bytes_from(&self, place: Place, count: usize) -> Result<Vec<u8>, AllocError> {
         let state = self.walker().state();
         let mut bytes = Vec::new(self.alloc);

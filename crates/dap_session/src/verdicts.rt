@@ -34,7 +34,11 @@ pub(crate) fn add_range(
 }
 
 /// Returns a breakpoint on an item of the source.
-pub(crate) fn verified_at(alloc: Global, base: Base, located: Located) -> Result<Value, AllocError> {
+pub(crate) fn verified_at(
+    alloc: Global,
+    base: Base,
+    located: Located,
+) -> Result<Value, AllocError> {
     let mut members = Members::new(alloc);
     members.flag("verified", true)?;
     add_range(&mut members, base, located)?;

@@ -1,12 +1,13 @@
-//! What an editor wants a run to stop at.
+//! The breakpoints that an editor set.
 
 use dap_messages::{
     DataBreakpoint, ExceptionFilter, FunctionBreakpoint, InstructionBreakpoint, SourceBreakpoint,
 };
+use explanations::Report;
 use places::Items;
 use std::alloc::Global;
 
-/// The breakpoints that an editor set.
+/// The breakpoints of each kind, as the editor requested them.
 #[derive(Drop)]
 pub(crate) struct Wanted {
     pub(crate) lines: Items<SourceBreakpoint>,
@@ -27,4 +28,13 @@ impl Wanted {
             filters: Items::new(alloc),
         }
     }
+}
+
+/// Returns whether a finding is one at which a run stops.
+pub(crate) fn stops_at(filters: &[ExceptionFilter], report: &Report) -> bool {
+    let is_fault = report.finding.kind.is_fault();
+    filters.iter().any(|filter| match filter {
+        ExceptionFilter::Faults => is_fault,
+        ExceptionFilter::Notes => !is_fault,
+    })
 }

@@ -1,0 +1,121 @@
+-- Answers to messages, one after the other.
+use Rattle.std.proofs.Common.{◌≡◌, ◌⊎◌, inl, inr, ℕ, List, [], ◌∷◌, ◌++◌, append_assoc, append-nil, refl, ap, sym, ◌∙◌, subst, Bool, true, false, Option, cc}
+use Rattle.std.proofs.KnownBytes.{Consumes-nil, Consumes-trans, Appends-nil, Appends-trans}
+use Rattle.std.specs.Io.KnownBytes.{Appends, Consumes, IsAtEnd}
+use Rattle.dap_frames.proofs.Pieces.{decode_pieces}
+use Rattle.dap_frames.specs.Decoding.{AddsPrefix, Decoded, Feeds, Partial, decode, start}
+use Rattle.dap_session.specs.Adapters.{AdapterState}
+use Rattle.dap_session.specs.Serving.{Converses, ServingState, Served, StepsOn, StepsTo, Takes, Took, fresh_adapter}
+
+-- Messages after others.
+pub Converses-append : (bs cs : List (List ℕ)) (s s1 s2 : AdapterState) (n n1 n2 : ℕ) (w v : List ℕ) (e : Bool) → Converses s n bs w s1 n1 false → Converses s1 n1 cs v s2 n2 e → Converses s n (bs ++ cs) (w ++ v) s2 n2 e
+Converses-append [] cs s s1 s2 n n1 n2 w v e p q =
+    let at : Converses s n1 cs v s2 n2 e = subst (λ (x : AdapterState). Converses x n1 cs v s2 n2 e) p.1 q in
+    let numbered : Converses s n cs v s2 n2 e = subst (λ (x : ℕ). Converses s x cs v s2 n2 e) p.2 at in
+    let bytes : w ++ v ≡ v = ap (λ (l : List ℕ). l ++ v) p.0 in
+    subst (λ (l : List ℕ). Converses s n cs l s2 n2 e) (sym bytes) numbered
+Converses-append (b ∷ bs) cs s s1 s2 n n1 n2 w v e (inl p) q =
+    let ended : false ≡ true = p.1 in
+    absurd (let impossible : ⊥ = cc in impossible)
+Converses-append (b ∷ bs) cs s s1 s2 n n1 n2 w v e (inr p) q = inr (record {
+  mid = p.mid;
+  next = p.next;
+  now = p.now;
+  rest = p.rest ++ v;
+  step = p.step;
+  bytes = ap (λ (l : List ℕ). l ++ v) p.bytes ∙ append_assoc p.now p.rest v;
+  follows = Converses-append bs cs p.mid s1 s2 p.next n1 n2 p.rest v e p.follows q;
+})
+
+-- ---- Pieces of the input
+
+more_bodies : (taken piece : List ℕ) (bodies later : List (List ℕ)) (p : Partial) → (decode start taken).rest ≡ p → (decode p piece).bodies ≡ bodies ++ later → (decode start (taken ++ piece)).bodies ≡ ((decode start taken).bodies ++ bodies) ++ later
+more_bodies taken piece bodies later p e cut =
+    ap (λ (d : Decoded). d.bodies) (decode_pieces start taken piece)
+    ∙ ap (λ (q : Partial). (decode start taken).bodies ++ (decode q piece).bodies) e
+    ∙ ap (λ (l : List (List ℕ)). (decode start taken).bodies ++ l) cut
+    ∙ sym (append_assoc (decode start taken).bodies bodies later)
+
+more_rest : (taken piece : List ℕ) (p q : Partial) → (decode start taken).rest ≡ p → (decode p piece).rest ≡ q → (decode start (taken ++ piece)).rest ≡ q
+more_rest taken piece p q e f =
+    ap (λ (d : Decoded). d.rest) (decode_pieces start taken piece)
+    ∙ ap (λ (r : Partial). (decode r piece).rest) e
+    ∙ f
+
+without_later : (front bodies later : List (List ℕ)) → later ≡ [] → (front ++ bodies) ++ later ≡ front ++ bodies
+without_later front bodies later e = ap (λ (l : List (List ℕ)). (front ++ bodies) ++ l) e ∙ append-nil (front ++ bodies)
+
+pub took_none : (r w : Option (List ℕ)) (s : ServingState) → s ≡ record { adapter = fresh_adapter; decoder = start; outbox = record { next = 1; bytes = [] } } → Took r r w w s
+took_none r w s e = record {
+  taken = [];
+  read = Consumes-nil r;
+  rest = sym (ap (λ (x : ServingState). x.decoder) e);
+  written = [];
+  appended = Appends-nil w;
+  answered = (refl, ap (λ (x : ServingState). x.adapter) e, ap (λ (x : ServingState). x.outbox.next) e, refl);
+  empty = ap (λ (x : ServingState). x.outbox.bytes) e;
+}
+
+-- What a whole piece leaves.
+whole_piece : (s s' : ServingState) (piece : List ℕ) (h h' : Option (List ℕ)) (t : Takes s piece s' h h' false) → (t.later ≡ []) × ((decode s.decoder piece).rest ≡ s'.decoder)
+whole_piece s s' piece h h' t = elim t.whole [ inl e ↦ absurd (let impossible : ⊥ = cc in impossible) | inr w ↦ w ]
+
+pub took_more : (r r1 r2 h h1 h2 : Option (List ℕ)) (s s' : ServingState) (piece : List ℕ) → Took r r1 h h1 s → Consumes r1 r2 piece → Takes s piece s' h1 h2 false → s'.outbox.bytes ≡ [] → Took r r2 h h2 s'
+took_more r r1 r2 h h1 h2 s s' piece t read k empty =
+    let whole = whole_piece s s' piece h1 h2 k in
+    let front : List (List ℕ) = (decode start t.taken).bodies in
+    let bodies : (decode start (t.taken ++ piece)).bodies ≡ front ++ k.bodies =
+    more_bodies t.taken piece k.bodies k.later s.decoder t.rest k.cut ∙ without_later front k.bodies k.later whole.0 in
+    record {
+  taken = t.taken ++ piece;
+  read = Consumes-trans r r1 r2 t.taken piece t.read read;
+  rest = more_rest t.taken piece s.decoder s'.decoder t.rest whole.1;
+  written = t.written ++ k.written;
+  appended = Appends-trans h h1 h2 t.written k.written t.appended k.appended;
+  answered = subst (λ (l : List (List ℕ)). Converses fresh_adapter 1 l (t.written ++ k.written) s'.adapter s'.outbox.next false) (sym bodies) (Converses-append front k.bodies fresh_adapter s.adapter s'.adapter 1 s.outbox.next s'.outbox.next t.written k.written false t.answered k.answered);
+  empty = empty;
+}
+
+-- The input ended.
+pub served_to_end : (r r1 r2 h h1 : Option (List ℕ)) (s : ServingState) → Took r r1 h h1 s → Consumes r1 r2 [] → IsAtEnd r2 → Served r r2 h h1
+served_to_end r r1 r2 h h1 s t none over = record {
+  taken = t.taken;
+  read = subst (λ (l : List ℕ). Consumes r r2 l) (append-nil t.taken) (Consumes-trans r r1 r2 t.taken [] t.read none);
+  bodies = (decode start t.taken).bodies;
+  later = [];
+  cut = sym (append-nil (decode start t.taken).bodies);
+  written = t.written;
+  appended = t.appended;
+  adapter = s.adapter;
+  next = s.outbox.next;
+  ends = false;
+  answered = t.answered;
+  over = inr (refl, over);
+}
+
+-- A message ended the session.
+pub served_to_message : (r r1 r2 h h1 h2 : Option (List ℕ)) (s s' : ServingState) (piece : List ℕ) → Took r r1 h h1 s → Consumes r1 r2 piece → Takes s piece s' h1 h2 true → Served r r2 h h2
+served_to_message r r1 r2 h h1 h2 s s' piece t read k = record {
+  taken = t.taken ++ piece;
+  read = Consumes-trans r r1 r2 t.taken piece t.read read;
+  bodies = (decode start t.taken).bodies ++ k.bodies;
+  later = k.later;
+  cut = more_bodies t.taken piece k.bodies k.later s.decoder t.rest k.cut;
+  written = t.written ++ k.written;
+  appended = Appends-trans h h1 h2 t.written k.written t.appended k.appended;
+  adapter = s'.adapter;
+  next = s'.outbox.next;
+  ends = true;
+  answered = Converses-append (decode start t.taken).bodies k.bodies fresh_adapter s.adapter s'.adapter 1 s.outbox.next s'.outbox.next t.written k.written true t.answered k.answered;
+  over = inl refl;
+}
+
+-- ---- One piece
+
+-- The bodies that a whole piece adds are all of it.
+pub fed_whole : (p q : Partial) (piece : List ℕ) (bodies : List (List ℕ)) → Feeds p piece [] bodies q [] → ((decode p piece).bodies ≡ bodies ++ []) × ((decode p piece).rest ≡ q)
+fed_whole p q piece bodies f = (ap (λ (d : Decoded). d.bodies) f.law ∙ ap (λ (l : List (List ℕ)). l ++ []) (sym f.added), ap (λ (d : Decoded). d.rest) f.law)
+
+-- Those that were added before a fault are the first ones.
+pub fed_front : (p : Partial) (piece : List ℕ) (bodies : List (List ℕ)) (f : AddsPrefix [] bodies (decode p piece).bodies) → (decode p piece).bodies ≡ bodies ++ f.rest
+fed_front p piece bodies f = f.whole ∙ ap (λ (l : List (List ℕ)). l ++ f.rest) (sym f.added)
