@@ -1,5 +1,5 @@
 -- The changes of the event before the position.
-use Rattle.std.proofs.Common.{◌≡◌, ℕ, zero, suc, ◌+◌, ◌-◌, ◌<◌, List, sym, ap, ◌∙◌, subst, arith}
+use Rattle.std.proofs.Common.{◌≡◌, ℕ, ◌+◌, ◌-◌, ◌<◌, List, subst, arith}
 use Rattle.places.specs.View.{Exact}
 use Rattle.places.specs.declared.value.Change.{Change}
 use Rattle.machine.specs.Runs.{moment}
@@ -9,11 +9,12 @@ use Rattle.run_log.specs.Listings.{IsListing}
 use Rattle.run_log.specs.declared.changed.Changed.{Changed}
 use Rattle.dap_views.specs.Variables.{ListsChanges}
 
-lists : (w : Walk) (at : ℕ) (past : List Change) (ds : List Changed) → 0 < at → at ≡ w.at → Exact (view (moment w.setup w.events (at - 1))) (view (moment w.setup w.events (at - 1 + 1))) past → IsListing (view (here w)) past ds → ListsChanges w at ds
-lists w zero past ds h e exact list = absurd (omega arith)
-lists w (suc k) past ds h e exact list =
-    let now : k + 1 ≡ w.at = omega arith in
-    (past, (subst (λ m. Exact (view (moment w.setup w.events k)) (view (moment w.setup w.events m)) past) now exact, list))
-
-pub lists_changes : (w : Walk) (at : ℕ) (past : List Change) (ds : List Changed) → 0 < at → at ≡ w.at → Exact (view (moment w.setup w.events (at - 1))) (view (moment w.setup w.events (at - 1 + 1))) past → IsListing (view (here w)) past ds → ListsChanges w w.at ds
-lists_changes w at past ds h e exact list = subst (λ m. ListsChanges w m ds) e (lists w at past ds h e exact list)
+pub lists_changes : (w : Walk) (at : ℕ) (past : List Change) (ds : List Changed) → 0 < at → at ≡ w.at → Exact (view (moment w.setup w.events (at - 1))) (view (moment w.setup w.events (at - 1 + 1))) past → IsListing (view (here w)) past ds → ListsChanges w ds
+lists_changes w at past ds some e exact list =
+    let now : at - 1 + 1 ≡ w.at = omega arith in
+    let before : at - 1 ≡ w.at - 1 = omega arith in
+    let after = subst (λ k. Exact (view (moment w.setup w.events (at - 1))) (view (moment w.setup w.events k)) past) now exact in
+    record {
+      none = λ h. absurd (omega arith);
+      all = λ h. (past, subst (λ k. Exact (view (moment w.setup w.events k)) (view (here w)) past) before after, list);
+    }

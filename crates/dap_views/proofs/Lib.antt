@@ -3,3 +3,4 @@ pub mod Counted
 pub mod Decoding
 pub mod ShownValues
 pub mod Changed
+pub mod Nearest

@@ -1,10 +1,14 @@
 -- Pages of lists of variables.
-use Rattle.std.proofs.Common.{◌≡◌, ℕ, zero, suc, ◌+◌, ◌-◌, ◌≤◌, min, List, [], ◌∷◌, ◌++◌, length, take, drop, map, refl, sym, ap, ◌∙◌, arith}
+use Rattle.std.proofs.Common.{◌≡◌, true, false, ℕ, zero, suc, ◌+◌, ◌-◌, ◌≤◌, min, List, [], ◌∷◌, ◌++◌, length, take, drop, map, refl, sym, ap, ◌∙◌, arith}
 use Rattle.std.specs.List.{range_with_len}
 use Rattle.std.proofs.lemmas.List.{drop-map, drop_min, length-drop, length-map, take-map, take_min}
 use Rattle.std.proofs.lemmas.List.FromFn.{length-map-range_with_len, take-map-range_with_len}
-use Rattle.dap_views.specs.Children.{numbered_children, place_in}
+use Rattle.scenario.specs.declared.setup.Setup.{Setup}
+use Rattle.machine.specs.declared.whole.Machine.{Machine}
+use Rattle.inverse_log.specs.Walks.{Walk, here}
+use Rattle.dap_views.specs.Children.{children, count_of, is_indexed, named_children, numbered_children, place_in}
 use Rattle.dap_views.specs.Pages.{left_out, most_on, page_of, rest_of}
+use Rattle.dap_views.specs.Variables.{child_variable, variables_in}
 use Rattle.dap_views.specs.Windows.{window}
 use Rattle.dap_views.specs.declared.children.Child.{Child}
 use Rattle.dap_views.specs.declared.children.Child.TheVariants as child
@@ -79,3 +83,31 @@ numbered_page h c p n =
     let fits : from + count ≤ n = omega arith in
     ap (λ l. map h l ++ rest_of (window p n).rest) (sym (part_counted g from count n fits))
     ∙ made_page h p (map g (range_with_len 0 n)) n (length-map-range_with_len g 0 n)
+
+-- The same of the children of a container.
+pub list_page : {X : Type 0} (h : X → Variable) (p : Page) (win : Window) (n : ℕ) (items : List X) → win ≡ window p n → n ≡ length items → map h (take (win.to - win.from) (drop win.from items)) ++ rest_of win.rest ≡ page_of p (map h items)
+list_page h p win n items is long =
+    ap (λ (v : Window). map h (take (v.to - v.from) (drop v.from items)) ++ rest_of v.rest) is ∙ made_page h p items n (sym long)
+
+named_in : (w : Walk) (c : Container) → is_indexed c ≡ false → map (child_variable w.setup (here w)) (named_children w.setup (here w) c) ≡ variables_in w c
+unfolding variables_in children
+named_in w c h = rw h refl
+
+numbered_in : (w : Walk) (c : Container) → is_indexed c ≡ true → map (child_variable w.setup (here w)) (numbered_children c 0 (count_of w.setup (here w) c)) ≡ variables_in w c
+unfolding variables_in children
+numbered_in w c h = rw h refl
+
+pub named_page : (w : Walk) (c : Container) (s : Setup) (m : Machine) (p : Page) (win : Window) (n : ℕ) (items : List Child) → s ≡ w.setup → m ≡ here w → items ≡ named_children s m c → is_indexed c ≡ false → win ≡ window p n → n ≡ length items → map (child_variable s m) (take (win.to - win.from) (drop win.from items)) ++ rest_of win.rest ≡ page_of p (variables_in w c)
+named_page w c s m p win n items setup state are named is long =
+    let in_setup = ap (λ t. map (child_variable t m) (named_children t m c)) setup in
+    let in_state = ap (λ k. map (child_variable w.setup k) (named_children w.setup k c)) state in
+    list_page (child_variable s m) p win n items is long
+    ∙ ap (page_of p) (ap (map (child_variable s m)) are ∙ (in_setup ∙ (in_state ∙ named_in w c named)))
+
+pub counted_page : (w : Walk) (c : Container) (s : Setup) (m : Machine) (p : Page) (win : Window) (n : ℕ) → s ≡ w.setup → m ≡ here w → n ≡ count_of s m c → is_indexed c ≡ true → win ≡ window p n → map (child_variable s m) (numbered_children c win.from (win.to - win.from)) ++ rest_of win.rest ≡ page_of p (variables_in w c)
+counted_page w c s m p win n setup state count indexed is =
+    let in_setup = ap (λ t. map (child_variable t m) (numbered_children c 0 (count_of t m c))) setup in
+    let in_state = ap (λ k. map (child_variable w.setup k) (numbered_children c 0 (count_of w.setup k c))) state in
+    ap (λ (v : Window). map (child_variable s m) (numbered_children c v.from (v.to - v.from)) ++ rest_of v.rest) is
+    ∙ (numbered_page (child_variable s m) c p n
+    ∙ ap (page_of p) (ap (λ k. map (child_variable s m) (numbered_children c 0 k)) count ∙ (in_setup ∙ (in_state ∙ numbered_in w c indexed))))

@@ -1,5 +1,5 @@
 -- The children of containers.
-use Rattle.std.specs.Prelude.{ℕ, ◌+◌, min, List, [], ◌∷◌, ◌++◌, length, map, slice_get, Bool, true, false, is_some, if◌then◌else◌, Option, Some, None}
+use Rattle.std.specs.Prelude.{ℕ, ◌+◌, min, List, [], ◌∷◌, ◌++◌, length, map, slice_get, Bool, true, false, is_some, if◌then◌else◌, Option, Some}
 use Rattle.std.specs.List.{range_with_len}
 use Rattle.std.specs.Option.{option_map_or}
 use Rattle.places.specs.View.{View}
@@ -23,7 +23,7 @@ use Rattle.dap_views.specs.Requests.{fields}
 use Rattle.dap_views.specs.declared.children.Child.{Child}
 use Rattle.dap_views.specs.declared.children.Child.TheVariants as child
 use Rattle.dap_views.specs.declared.container.Container.{Container}
-use Rattle.dap_views.specs.declared.container.Container.TheVariants.{Thread, Rings, Requests, Objects, Memory, Changes, Findings, Array, Entries, Completions, Backlog, Request, Object as ObjectOf, Descriptor, File, Durable, Pipe}
+use Rattle.dap_views.specs.declared.container.Container.TheVariants.{Thread, Rings, Requests, Objects, Memory, Array, Entries, Completions, Backlog, Request, Object as ObjectOf, Descriptor, File, Durable, Pipe}
 
 -- ---- Numbered children
 

@@ -1,7 +1,6 @@
 //! The bodies of responses as JSON, in the protocol's member names.
 ghost use Rattle.std.specs.Prelude.{◌≡◌, IfOk, OnOk, map};
 ghost use Rattle.serde_json.specs.View.{members_view, view};
-ghost use Rattle.inverse_log.specs.Walks.{here};
 ghost use Rattle.dap_views.specs.Bodies.{evaluate_body, is_byte, list_body, scope_data, scopes_body, thread_data, threads_body, variable_data, variables_body, with_children, with_expression, with_indexed, with_memory};
 
 use crate::container::{Container, reference_of};

@@ -13,7 +13,7 @@ use stops::record_of;
 
 /// Returns the changes of the event before the position, in the order of places.
 pub(crate) fn changes_at(alloc: Global, walker: &Walker) -> Result<Vec<Changed>, AllocError>
-    ensures { IfOk result (λ list. ListsChanges walker.now walker.now.at list.items) }
+    ensures { IfOk result (λ list. ListsChanges walker.now list.items) }
 {
     let at = walker.at();
     if at == 0 {

@@ -1,6 +1,5 @@
 //! How many children the containers of places have that are numbered.
 ghost use Rattle.std.specs.Prelude.{◌≡◌, ◌↔◌, ◌≤◌, ◌<◌, IsTrue, length};
-ghost use Rattle.machine.specs.Whole.{view};
 ghost use Rattle.dap_views.specs.Children.{capacity_in, capacity_of, count_of, is_indexed, length_in, listed_count, place_in};
 
 use crate::container::Container;

@@ -1,12 +1,12 @@
 //! Frames as JSON, in the protocol's member names.
-ghost use Rattle.std.specs.Prelude.{◌≡◌, IfOk, OnOk, option_map, map};
+ghost use Rattle.std.specs.Prelude.{◌≡◌, IfOk, OnOk, option_map};
 ghost use Rattle.std.specs.Option.{option_to_list};
 ghost use Rattle.serde_json.specs.View.{members_view, view};
-ghost use Rattle.dap_views.specs.Bodies.{counted, frame_data, stack_body, with_end, with_range, with_source, with_start};
+ghost use Rattle.dap_views.specs.Bodies.{counted, frame_data, list_data, stack_body, with_end, with_range, with_source, with_start};
 
 use crate::editor_threads::thread_id;
 use crate::frames::{Frame, SourceRange};
-use crate::json::{Members, put_list, put_member, put_number, put_text};
+use crate::json::{Members, put_member, put_number, put_text};
 use dap_messages::InitializeArguments;
 use machine::Setup;
 use serde_json::{Map, Value};
@@ -130,14 +130,19 @@ pub fn frame_value(
     Ok(Value::Object(members))
 }
 
-fn frame_list(alloc: Global, frame: Option<Value>) -> Result<Vec<Value>, AllocError>
-    ensures { IfOk result (λ list. map view list.items ≡ option_to_list (option_map view frame)) }
+// Returns a list of at most one frame.
+#[tactic(auto, unfolding(crate::specs::Bodies::list_data))]
+fn frames_value(alloc: Global, frame: Option<Value>) -> Result<Value, AllocError>
+    ensures { IfOk result (λ v. view v ≡ list_data (option_to_list (option_map view frame))) }
 {
     let mut list = Vec::new(alloc);
-    if let Some(frame) = frame {
-        list.push(frame)?;
+    match frame {
+        Some(frame) => {
+            list.push(frame)?;
+            Ok(Value::Array(list))
+        }
+        None => Ok(Value::Array(list)),
     }
-    Ok(list)
 }
 
 /// Returns the body of the response to `stackTrace`: the frame of a thread, or none if it is not on
@@ -146,9 +151,9 @@ fn frame_list(alloc: Global, frame: Option<Value>) -> Result<Vec<Value>, AllocEr
 pub fn stack_body(alloc: Global, frame: Option<Value>) -> Result<Value, AllocError>
     ensures { IfOk result (λ v. view v ≡ stack_body (option_to_list (option_map view frame))) }
 {
-    let list = frame_list(alloc, frame)?;
+    let frames = frames_value(alloc, frame)?;
     let mut members = Map::new(alloc);
-    put_list(alloc, &mut members, "stackFrames", list)?;
+    put_member(alloc, &mut members, "stackFrames", frames)?;
     put_number(alloc, &mut members, "totalFrames", 1)?;
     Ok(Value::Object(members))
 }

@@ -15,6 +15,11 @@ pub fn references_name_containers()
     ensures { (c : Container) → number_of c < 65536 → container_of (reference_of c) ≡ Some c }
 {}
 
+/// A reference that is read is that of the container.
+pub fn references_are_exact()
+    ensures { (r : ℕ) (c : Container) → container_of r ≡ Some c → reference_of c ≡ r }
+{}
+
 /// A thread is found by its number.
 pub fn numbers_name_threads()
     ensures { (s : Setup) (t : EditorThread) → HasThread s t → thread_of s (thread_id s t) ≡ Some t }

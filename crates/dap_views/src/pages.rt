@@ -65,7 +65,7 @@ fn left_out(page: Page, after: usize) -> usize
     }
 }
 
-/// Returns which of so many variables are on a page.
+/// Returns which of `total` variables are on a page.
 pub(crate) fn window_of(page: Page, total: usize) -> Window
     ensures value { result ≡ window page total }
     ensures order { result.from ≤ result.to }

@@ -1,4 +1,4 @@
-use Rattle.std.proofs.Common.{ℕ, ◌≡◌, ◌∙◌, ap, ◌++◌, ◌∷◌, []}
+use Rattle.std.proofs.Common.{ℕ, ◌∙◌, ap, ◌++◌, ◌∷◌, []}
 use Rattle.dap_views.specs.declared.children.Child.TheVariants as child
 use Rattle.dap_views.specs.Children.{place_in}
 use Rattle.dap_views.proofs.Counted.{one_more_from}
