@@ -94,7 +94,7 @@ fn add_paragraph(
 fn add_finding(
     alloc: Global,
     out: &mut String,
-    source: Option<&Source<'_>>,
+    source: Option<&Source>,
     run: &Run<'_>,
     request: Request<'_>,
     index: usize,
@@ -113,7 +113,7 @@ fn add_finding(
 fn add_findings(
     alloc: Global,
     out: &mut String,
-    source: Option<&Source<'_>>,
+    source: Option<&Source>,
     run: &Run<'_>,
     request: Request<'_>,
 ) -> Result<(), AllocError> {
@@ -151,7 +151,7 @@ fn add_sum(
 fn add_log(
     alloc: Global,
     out: &mut String,
-    source: Option<Source<'_>>,
+    source: Option<Source>,
     run: &Run<'_>,
     request: Request<'_>,
 ) -> Result<(), AllocError> {

@@ -11,7 +11,7 @@ use std::alloc::{AllocError, Global};
 
 /// The log up to its first result, and after its last one.
 pub(crate) const HEAD: &str =
-    "{\"$schema\":\"https://json.schemastore.org/sarif-2.1.0.json\",\"version\":\"2.1.0\",\"runs\":[{\"tool\":{\"driver\":{\"name\":\"uringwalk\"}},\"columnKind\":\"unicodeCodePoints\",\"results\":[\n";
+    "{\"$schema\":\"https://json.schemastore.org/sarif-2.1.0.json\",\"version\":\"2.1.0\",\"runs\":[{\"tool\":{\"driver\":{\"name\":\"uringwalk\"}},\"columnKind\":\"utf16CodeUnits\",\"results\":[\n";
 
 pub(crate) const TAIL: &str = "\n]}]}\n";
 
@@ -27,8 +27,7 @@ const ESCAPED: AsciiSet = ascii_set!(
 
 /// A script with its URI, and where its items are.
 #[derive(Drop)]
-pub(crate) struct Source<'a> {
-    text: &'a [u8],
+pub(crate) struct Source {
     uri: String,
     map: SourceMap,
 }
@@ -90,44 +89,31 @@ fn uri_of(alloc: Global, path: &str) -> Result<String, AllocError> {
 }
 
 /// Returns the script in the file of a path, or `None` if its bytes aren't a script.
-pub(crate) fn source_of<'a>(
+pub(crate) fn source_of(
     alloc: Global,
     path: &str,
-    text: &'a [u8],
-) -> Result<Option<Source<'a>>, AllocError> {
+    text: &[u8],
+) -> Result<Option<Source>, AllocError> {
     let Some(map) = map_of(alloc, text)? else {
         return Ok(None);
     };
     let uri = uri_of(alloc, path)?;
-    Ok(Some(Source { text, uri, map }))
+    Ok(Some(Source { uri, map }))
 }
 
-// Returns the column of an offset in characters, by its column in bytes.
-fn column_of(text: &[u8], offset: usize, column: usize) -> usize {
-    let start = offset.saturating_sub(column.saturating_sub(1));
-    match text.get(start..offset) {
-        Some(before) => before
-            .iter()
-            .filter(|byte| **byte & 0xc0 != 0x80)
-            .count()
-            .saturating_add(1),
-        None => column,
-    }
-}
-
-fn region_of(text: &[u8], item: Item) -> Region {
-    let Item { span, start, end } = item;
+fn region_of(item: Item) -> Region {
+    let Item { start, end, .. } = item;
     Region {
         start_line: start.line,
-        start_column: column_of(text, span.start, start.column),
+        start_column: start.column,
         end_line: end.line,
-        end_column: column_of(text, span.end, end.column),
+        end_column: end.column,
     }
 }
 
 // Returns the location of a finding in a script.
 fn location_of<'a>(
-    source: Option<&'a Source<'a>>,
+    source: Option<&'a Source>,
     run: &Run<'_>,
     finding: &Finding,
 ) -> Option<Location<'a>> {
@@ -138,7 +124,7 @@ fn location_of<'a>(
             artifact_location: ArtifactLocation {
                 uri: source.uri.as_str(),
             },
-            region: region_of(source.text, item),
+            region: region_of(item),
         },
     })
 }
@@ -147,7 +133,7 @@ fn location_of<'a>(
 pub(crate) fn add_result(
     alloc: Global,
     out: &mut String,
-    source: Option<&Source<'_>>,
+    source: Option<&Source>,
     run: &Run<'_>,
     index: usize,
     finding: Finding,
