@@ -42,6 +42,11 @@ pub(crate) struct Walk {
     is_after_key: bool,
 }
 
+// Returns whether a byte ends a number or a word.
+fn ends_scalar(byte: u8) -> bool {
+    matches!(byte, b' ' | b'\t' | b'\r' | b'\n' | b',' | b']' | b'}')
+}
+
 impl Walk {
     pub fn new() -> Walk {
         Walk {
@@ -110,15 +115,22 @@ impl Walk {
         None
     }
 
+    /// Returns whether a byte needn't be read: it is white space, or in a string, a number or a word.
+    pub fn passes(&self, byte: u8) -> bool {
+        match self.within {
+            Within::Plain => matches!(byte, b' ' | b'\n'),
+            Within::Scalar => !ends_scalar(byte),
+            Within::String => byte != b'"' && byte != b'\\',
+            Within::Escape => false,
+        }
+    }
+
     /// Returns what ends before a byte. Only a number or a word does.
     pub fn read_end(&mut self, at: usize, byte: u8) -> Option<Ended> {
-        if !matches!(self.within, Within::Scalar) {
-            return None;
+        if matches!(self.within, Within::Scalar) && ends_scalar(byte) {
+            return self.end(at);
         }
-        match byte {
-            b' ' | b'\t' | b'\r' | b'\n' | b',' | b']' | b'}' => self.end(at),
-            _ => None,
-        }
+        None
     }
 
     /// Reads the byte at an offset, and returns what ends with it.
