@@ -198,16 +198,16 @@ impl Scan {
 pub fn spans_of(alloc: Global, text: &[u8]) -> Result<Spans, AllocError> {
     let mut scan = Scan::new(alloc);
     let mut walk = Walk::new();
-    for (at, byte) in text.iter().enumerate() {
-        if walk.passes(*byte) {
-            continue;
-        }
-        if let Some(before) = walk.read_end(at, *byte) {
+    let mut at = 0;
+    while at < text.len() {
+        let byte = text[at];
+        if let Some(before) = walk.read_end(at, byte) {
             scan.take(text, before)?;
         }
-        if let Some(ended) = walk.read(at, *byte) {
+        if let Some(ended) = walk.read(at, byte) {
             scan.take(text, ended)?;
         }
+        at = walk.next(text, at + 1);
     }
     let Scan { spans, .. } = scan;
     Ok(spans)

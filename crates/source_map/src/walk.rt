@@ -1,4 +1,5 @@
 //! Splits a JSON text into its values, byte by byte. It expects a valid text.
+ghost use Rattle.std.specs.Prelude.{◌≤◌, length};
 
 use crate::span::Span;
 
@@ -115,13 +116,23 @@ impl Walk {
         None
     }
 
-    /// Returns whether a byte needn't be read: it is white space, or in a string, a number or a word.
-    pub fn passes(&self, byte: u8) -> bool {
-        match self.within {
-            Within::Plain => matches!(byte, b' ' | b'\n'),
-            Within::Scalar => !ends_scalar(byte),
-            Within::String => byte != b'"' && byte != b'\\',
-            Within::Escape => false,
+    /// Returns the offset of the next byte that has to be read, from an offset on. White space needn't
+    /// be, nor what is within a string, a number or a word.
+    pub fn next(&self, text: &[u8], from: usize) -> usize
+        requires { from ≤ length text.now }
+        ensures from { from ≤ result }
+        ensures within { result ≤ length text.now }
+    {
+        let mut bytes = text[from..].iter();
+        let skipped = match self.within {
+            Within::Plain => bytes.position(|byte| !matches!(*byte, b' ' | b'\n')),
+            Within::Scalar => bytes.position(|byte| ends_scalar(*byte)),
+            Within::String => bytes.position(|byte| matches!(*byte, b'"' | b'\\')),
+            Within::Escape => Some(0),
+        };
+        match skipped {
+            Some(skipped) => from + skipped,
+            None => text.len(),
         }
     }
 
