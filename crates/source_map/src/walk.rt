@@ -116,8 +116,8 @@ impl Walk {
         None
     }
 
-    /// Returns the offset of the next byte that has to be read, from an offset on. White space needn't
-    /// be, nor what is within a string, a number or a word.
+    /// Returns the offset of the next byte that has to be read, from an offset on. White space and
+    /// what is within a string, a number or a word are passed over.
     pub fn next(&self, text: &[u8], from: usize) -> usize
         requires { from ≤ length text.now }
         ensures from { from ≤ result }
