@@ -1,5 +1,6 @@
 //! Reads ranges of a text, and compares them with the items that they should be.
-ghost use Rattle.std.specs.Prelude.{◌≡◌, IfOk, IfSome, IsTrue};
+ghost use Rattle.std.specs.Prelude.{◌≡◌, IfOk, IfSome, IsTrue, Some};
+ghost use Rattle.serde_json.specs.Read.{read};
 ghost use Rattle.serde_json.specs.View.{view};
 ghost use Rattle.script.specs.Events.{event_at};
 ghost use Rattle.script.specs.Instructions.{instruction_at};
@@ -14,14 +15,11 @@ use script::items::{read_event, read_instruction};
 use serde_json::Value;
 use std::alloc::{AllocError, Global};
 
-// Returns the value that a range reads as.
-fn value_at(alloc: Global, text: &[u8], span: Span) -> Result<Option<Value>, AllocError>
-    ensures reads { IfOk result (λ found. IfSome found (λ v. ReadsAt text.now span (view v))) }
+/// Returns the value that a text reads as.
+pub(crate) fn value_of(alloc: Global, text: &[u8]) -> Result<Option<Value>, AllocError>
+    ensures { IfOk result (λ found. IfSome found (λ v. read text.now ≡ Some (view v))) }
 {
-    let Some(range) = range_of(text, span) else {
-        return Ok(None);
-    };
-    match Value::from_slice(alloc, range) {
+    match Value::from_slice(alloc, text) {
         Ok(value) => Ok(Some(value)),
         Err(error) => {
             if error.is_memory() {
@@ -30,6 +28,16 @@ fn value_at(alloc: Global, text: &[u8], span: Span) -> Result<Option<Value>, All
                 Ok(None)
             }
         }
+    }
+}
+
+// Returns the value that a range reads as.
+fn value_at(alloc: Global, text: &[u8], span: Span) -> Result<Option<Value>, AllocError>
+    ensures { IfOk result (λ found. IfSome found (λ v. ReadsAt text.now span (view v))) }
+{
+    match range_of(text, span) {
+        Some(range) => value_of(alloc, range),
+        None => Ok(None),
     }
 }
 

@@ -1,4 +1,5 @@
 //! Splits a JSON text into its values, byte by byte. It expects a valid text.
+ghost use Rattle.std.specs.Prelude.{◌≤◌, length};
 
 use crate::span::Span;
 
@@ -40,6 +41,11 @@ pub(crate) struct Walk {
     starts: [usize; LEVELS],
     /// Whether a member's key is read, and not its value yet.
     is_after_key: bool,
+}
+
+// Returns whether a byte ends a number or a word.
+fn ends_scalar(byte: u8) -> bool {
+    matches!(byte, b' ' | b'\t' | b'\r' | b'\n' | b',' | b']' | b'}')
 }
 
 impl Walk {
@@ -110,15 +116,32 @@ impl Walk {
         None
     }
 
+    /// Returns the offset of the next byte that has to be read, from an offset on. White space and
+    /// what is within a string, a number or a word are passed over.
+    pub fn next(&self, text: &[u8], from: usize) -> usize
+        requires { from ≤ length text.now }
+        ensures from { from ≤ result }
+        ensures within { result ≤ length text.now }
+    {
+        let mut bytes = text[from..].iter();
+        let skipped = match self.within {
+            Within::Plain => bytes.position(|byte| !matches!(*byte, b' ' | b'\n')),
+            Within::Scalar => bytes.position(|byte| ends_scalar(*byte)),
+            Within::String => bytes.position(|byte| matches!(*byte, b'"' | b'\\')),
+            Within::Escape => Some(0),
+        };
+        match skipped {
+            Some(skipped) => from + skipped,
+            None => text.len(),
+        }
+    }
+
     /// Returns what ends before a byte. Only a number or a word does.
     pub fn read_end(&mut self, at: usize, byte: u8) -> Option<Ended> {
-        if !matches!(self.within, Within::Scalar) {
-            return None;
+        if matches!(self.within, Within::Scalar) && ends_scalar(byte) {
+            return self.end(at);
         }
-        match byte {
-            b' ' | b'\t' | b'\r' | b'\n' | b',' | b']' | b'}' => self.end(at),
-            _ => None,
-        }
+        None
     }
 
     /// Reads the byte at an offset, and returns what ends with it.
