@@ -83,7 +83,7 @@ def check_against_others(room, situation, expected):
     first, state, rest = expected.first, expected.after[:2], expected.after[2:]
     if call in ("attempt", "take_offer", "offer"):
         check_live(room, situation, expected)
-    elif call == "copy":
+    elif call in ("copy", "snapshot"):
         require(rest == state, f"{rest} is no copy of {state}")
     elif call == "start":
         require(rest == stepped(room, over, 0)[0], f"{rest} is not the start")

@@ -195,6 +195,7 @@ def calls_of_states():
         whole = last(name) + 1
         yield Situation("start", name, answers=((3, 0),))
         yield Situation("copy", name, whole)
+        yield Situation("snapshot", name, whole)
         yield Situation("look", name, whole, quiet=True)
         yield Situation("unwind", name, whole, quiet=True)
 
@@ -204,6 +205,9 @@ def calls_of_walkers():
     yield Situation("extend", "twelve_ticks", 2, 1, answers=[(2, event) for event in (1, 2, 5, 6, 9)], rising=True)
     yield Situation("goto", "ticks", 9, 5, answers=((2, 0),))
     yield Situation("goto", "ticks", 10, 9, quiet=True)
+    yield Situation("move_to", "ticks", 9, 5, answers=((2, 0),))
+    yield Situation("move_to", "all_opcodes", 3, 30, answers=((2, 0),))
+    yield Situation("last_state", "all_opcodes", 3)
     yield Situation("back", "ticks", 10, quiet=True)
     yield Situation("on", "ticks", 9, spares=True)
     yield Situation("on", "written_page", 4)

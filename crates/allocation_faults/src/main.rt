@@ -36,7 +36,9 @@ const SCRIPT: u64 = 8388608;
 
 fn try_plan<R: Print + Eprint>(rt: &R, given: &Given<'_>) -> io::Result<()> {
     match given.plan.call {
-        Call::Step | Call::Start | Call::Copy | Call::Look => try_stepping(rt, given),
+        Call::Step | Call::Start | Call::Copy | Call::Snapshot | Call::Look => {
+            try_stepping(rt, given)
+        }
         Call::Line | Call::Serve => try_talking(rt, given),
         Call::Attempt | Call::TakeOffer | Call::Offer | Call::Finish => try_live(rt, given),
         _ => try_walking(rt, given),

@@ -47,6 +47,10 @@ impl Situation for Stepping<'_> {
                 let made = self.state.copy(self.given.alloc);
                 self.keep(made.map_err(|_| 1))
             }
+            Call::Snapshot => {
+                let made = self.restored();
+                self.keep(made.map_err(|_| 1))
+            }
             _ => self.look(),
         }
     }
@@ -68,6 +72,14 @@ impl Stepping<'_> {
             }
             Err(refusal) => Err((refusal as u32, 0)),
         }
+    }
+
+    // Returns the state once more: a copy that shares its pages, restored in the room of another.
+    fn restored(&mut self) -> Result<State, AllocError> {
+        let alloc = self.given.alloc;
+        let copy = self.state.snapshot(alloc)?;
+        let room = copy.to_state(alloc)?;
+        copy.restore(alloc, room)
     }
 
     fn keep(&mut self, made: Result<State, u32>) -> Answer {

@@ -3,7 +3,7 @@
 use crate::plan::Call;
 use crate::situation::{Answer, Given, Situation, arm, disarm, missing, print_answer, try_call};
 use crate::summing::Sum;
-use inverse_log::{ExtendRefusal, Walker};
+use inverse_log::{ExtendRefusal, WalkRefusal, Walker};
 use machine::{Event, Refusal};
 use places::Place;
 use std::alloc::AllocError;
@@ -66,9 +66,11 @@ impl Situation for Walking<'_> {
     fn call(&mut self) -> Answer {
         match self.given.plan.call {
             Call::Extend => extend(self.walker, self.given.rest()),
-            Call::Goto => match self.walker.goto(self.given.plan.to) {
-                Ok(()) => Ok(0),
-                Err(refusal) => Err((refusal as u32, 0)),
+            Call::Goto => moved(self.walker.goto(self.given.plan.to)),
+            Call::MoveTo => moved(self.walker.move_to(self.given.plan.to)),
+            Call::LastState => match self.walker.last_state() {
+                Ok(state) => Ok(state.clock()),
+                Err(_) => Err((1, 0)),
             },
             Call::On => self.walker.on().map(u64::from).map_err(|_| (1, 0)),
             Call::Back => Ok(u64::from(self.walker.back())),
@@ -94,6 +96,13 @@ fn extend(walker: &mut Walker, events: &[Event]) -> Answer {
         Ok(()) => Ok(0),
         Err(ExtendRefusal::Refused(index, Refusal::Memory)) => Err((2, u64::from(index))),
         Err(refusal) => Err((refusal.number().saturating_add(100), 0)),
+    }
+}
+
+fn moved(jump: Result<(), WalkRefusal>) -> Answer {
+    match jump {
+        Ok(()) => Ok(0),
+        Err(refusal) => Err((refusal as u32, 0)),
     }
 }
 
