@@ -1,7 +1,0 @@
-pub mod Runs
-pub mod Moves
-pub mod Owing
-pub mod Adapters
-pub mod Posting
-pub mod Messages
-pub mod Serving
