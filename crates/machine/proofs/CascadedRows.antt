@@ -63,12 +63,10 @@ cascaded_unmet m direct r x h = by (slice_get m.table r) refl (sym (mapped_at (e
     stays y e n false u = ap (λ k. is_met (m.counted + k) y) (counted_cascade m.table m.counted direct) ∙ (unlisted m.table m.counted direct r y e (ap not u) n).met
 
     by_result : (y : Row) → slice_get m.table r ≡ Some y → (o : Option ℤ) → result_in endings_so r ≡ o → is_met total (option_map_or (λ res. record y { phase = Ended res }) o y) ≡ false
-    by_result y e None n = stays y e n (is_ended y.phase) refl
-    by_result y e (Some res) n = refl
+    by_result = grind (arith, stays)
 
     by : (o : Option Row) → slice_get m.table r ≡ o → option_map (λ y. ended_by endings_so r y) o ≡ Some x → is_met total x ≡ false
-    by None e k = absurd cc
-    by (Some y) e k = let same : ended_by endings_so r y ≡ x = cc in ap (is_met total) (sym same) ∙ by_result y e (result_in endings_so r) refl
+    by = grind (arith, endings_so, total, by_result)
 
 -- After a cascade, linked timeouts come after their targets, if all but the direct completions did
 -- before.
@@ -126,10 +124,7 @@ direct_two rows t r n res y x g v h u l = record { each = each; rising = rising 
     each (suc (suc i)) p e = absurd cc
 
     rising : (i j : ℕ) (p q : ℕ × ℤ) → slice_get ((t, n) ∷ (r, res) ∷ []) i ≡ Some p → slice_get ((t, n) ∷ (r, res) ∷ []) j ≡ Some q → i < j → p.0 < q.0
-    rising i zero p q e o k = absurd (omega (arith, k))
-    rising zero (suc zero) p q e o k = let a : t ≡ p.0 = cc in let b : r ≡ q.0 = cc in omega (arith, a, b, l)
-    rising (suc i) (suc zero) p q e o k = absurd (omega (arith, k))
-    rising i (suc (suc j)) p q e o k = absurd cc
+    rising = grind arith
 
 -- So is one unfinished request.
 pub direct_one : (rows : List Row) (r : ℕ) (res : ℤ) (x : Row) → slice_get rows r ≡ Some x → is_ended x.phase ≡ false → Direct rows ((r, res) ∷ [])
@@ -140,5 +135,4 @@ direct_one rows r res x h u = record { each = each; rising = rising }
     each (suc i) p e = absurd cc
 
     rising : (i j : ℕ) (p q : ℕ × ℤ) → slice_get ((r, res) ∷ []) i ≡ Some p → slice_get ((r, res) ∷ []) j ≡ Some q → i < j → p.0 < q.0
-    rising i zero p q e g l = absurd (omega (arith, l))
-    rising i (suc j) p q e g l = absurd cc
+    rising = grind arith

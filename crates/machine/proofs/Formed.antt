@@ -1,19 +1,14 @@
 -- Accepted events preserve well-formedness.
-use Rattle.std.proofs.Common.{◌≡◌, ℕ, ℤ, zero, suc, pos, negsuc, Bool, true, false, cond, refl, sym, ◌∙◌, ap, List, [], ◌∷◌, length, ◌+◌, ◌*◌, ◌%◌, ◌<◌, ◌≤◌, ◌^◌, ◌⊎◌, inl, inr, arith, FitsSigned}
+use Rattle.std.proofs.Common.{◌≡◌, ℕ, ℤ, pos, negsuc, Bool, true, false, cond, refl, ◌∙◌, ap, List, [], ◌∷◌, length, ◌+◌, ◌*◌, ◌%◌, ◌<◌, ◌≤◌, ◌^◌, inl, arith, FitsSigned}
 use Rattle.std.specs.Prelude.{Option, Some, None, min, slice_get, slice_set, nat_lt, ◌==◌, ◌&&◌, if◌then◌else◌}
 use Rattle.std.specs.Int.{w64}
-use Rattle.std.proofs.lemmas.Bool.{eq-eqb}
-use Rattle.std.proofs.lemmas.Bool.Decides.{leb_tells}
-use Rattle.std.proofs.Math.Dec.{ltb}
 use Rattle.entries.specs.declared.completion.Cqe.{Cqe}
 use Rattle.entries.specs.declared.row.Row.{Row}
 use Rattle.entries.specs.declared.row.Phase.{Phase}
-use Rattle.entries.specs.declared.row.Phase.TheVariants.{Queued, Issued, Ended}
 use Rattle.links_drains.specs.Holding.{is_held_by}
 use Rattle.entries.specs.declared.choice.Choice.{Choice}
 use Rattle.opcodes.specs.declared.ending.Outcome.{Outcome}
 use Rattle.opcodes.specs.declared.ending.Outcome.TheVariants.{Res, Waits, BadChoice}
-use Rattle.opcodes.specs.Opcodes.{is_cancel, is_timer}
 use Rattle.opcodes.specs.Outcomes.{outcome_of}
 use Rattle.opcodes.specs.Effects.{world_after}
 use Rattle.opcodes.proofs.Staying.{stays_after}
@@ -49,9 +44,6 @@ use Rattle.machine.proofs.EnterLemmas.{CanStart, can_start}
 use Rattle.machine.proofs.GuardLemmas.{eligible_no_guard}
 use Rattle.machine.proofs.PipeCounts.{puts_fit}
 use Rattle.std.proofs.lemmas.Grind.{common_steps}
-
-ltb_decides : (a b : ℕ) → ((ltb a b ≡ true) × (a < b)) ⊎ ((ltb a b ≡ false) × (b ≤ a))
-ltb_decides a b = elim (leb_tells (suc a) b) [ inl k ↦ inl (k.0, k.1) | inr k ↦ inr (k.0, let l = k.1 in omega arith) ]
 
 -- ---- Each event
 
@@ -92,17 +84,13 @@ formed_finish m r c f h = by (slice_get m.table r) refl h
     choosing x e q false = ending x e q (outcome_of (is_held_by m.table) m.world x c) refl
 
     at : (x : Row) → slice_get m.table r ≡ Some x → (p : Phase) → x.phase ≡ p → phase_refusal p (choice_refusal (is_held_by m.table) m.world x c) ≡ None → WellFormed (finished m r (Some x) c)
-    at x e Queued q k = absurd cc
-    at x e Issued q k = choosing x e (ap is_ended q) (is_cancel x.entry.opcode)
-    at x e (Ended n) q k = absurd cc
+    at = grind (arith, choosing)
 
     timing : (x : Row) → slice_get m.table r ≡ Some x → (b : Bool) → cond b (Some WrongPhase) (phase_refusal x.phase (choice_refusal (is_held_by m.table) m.world x c)) ≡ None → WellFormed (finished m r (Some x) c)
-    timing x e true k = absurd cc
-    timing x e false k = at x e x.phase refl k
+    timing = grind (arith, at)
 
     by : (o : Option Row) → slice_get m.table r ≡ o → finish_refusal (is_held_by m.table) m.world o c ≡ None → WellFormed (finished m r o c)
-    by None e k = absurd cc
-    by (Some x) e k = timing x e (is_timer x.entry.opcode) k
+    by = grind (arith, timing)
 
 -- ---- Each instruction
 
@@ -211,15 +199,7 @@ formed_pushing m t x index f e g r h = by _ refl h
     w = waiting m.submissions.head m.submissions.tail
 
     less : (w == length m.submissions.array) ≡ false → w < length m.submissions.array
-    less o = by_order (ltb_decides w (length m.submissions.array))
-      where
-        by_order : ((ltb w (length m.submissions.array) ≡ true) × (w < length m.submissions.array)) ⊎ ((ltb w (length m.submissions.array) ≡ false) × (length m.submissions.array ≤ w)) → w < length m.submissions.array
-        by_order (inl a) = a.1
-        by_order (inr a) =
-            let most = f.mostly.rings.entries_wait in
-            let least = a.1 in
-            let same : w ≡ length m.submissions.array = omega (arith, most, least) in
-            absurd (let k = sym (eq-eqb w (length m.submissions.array) same) ∙ o in cc)
+    less = grind arith
 
     by : (b : Bool) → (w == length m.submissions.array) ≡ b → (if b then Some SqFull else None) ≡ None → WellFormed (executed m t (Some (Push index)))
     by true o k = absurd cc
@@ -237,8 +217,7 @@ formed_reaping m t x f e g r h = by _ refl h
     got = slice_get m.completions.slots (m.completions.head % length m.completions.slots)
 
     some : (n : ℕ) → (n == 0) ≡ false → 0 < n
-    some zero o = absurd cc
-    some (suc n) o = omega arith
+    some = grind arith
 
     by : (b : Bool) → (w == 0) ≡ b → (if b then Some NothingToReap else None) ≡ None → WellFormed (executed m t (Some Reap))
     by true o k = absurd cc

@@ -165,9 +165,7 @@ started_one m rows r c n x s e q l = record {
 }
   where
     row : (y : Row) → slice_get rows r ≡ Some y → RowFormed m.world (started c n y)
-    row y k =
-        let same : x ≡ y = let o = sym e ∙ k in cc in
-        subst (λ (z : Row). RowFormed m.world (started c n z)) same (started_row m.world c n x q l (s.formed.each r x e))
+    row = grind (arith, started_row)
 
 -- A linked timeout uses no descriptor.
 guard_lacks_none : (w : WorldState) (y : Row) → is_guard y ≡ true → lacks_descriptor w y ≡ false

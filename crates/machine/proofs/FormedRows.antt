@@ -1,5 +1,5 @@
 -- The requests that a submission adds, and the invariant of each request.
-use Rattle.std.proofs.Common.{◌≡◌, ℕ, suc, Bool, true, false, not, cond, refl, sym, ◌∙◌, ap, subst, List, [], ◌∷◌, length, ◌≤◌, ◌⊎◌, inl, inr, arith}
+use Rattle.std.proofs.Common.{◌≡◌, ℕ, suc, Bool, true, false, not, cond, refl, sym, ◌∙◌, ap, subst, List, [], ◌∷◌, length, ◌≤◌, ◌⊎◌, arith}
 use Rattle.std.specs.Prelude.{Option, Some, None, IsSome, is_some, slice_get, ◌&&◌}
 use Rattle.std.specs.Option.{option_and_then}
 use Rattle.std.specs.Result.{result_err}
@@ -102,8 +102,7 @@ pub formed_rows-updated : (w : WorldState) (f : Row → Row) (rows : List Row) (
 formed_rows-updated w f rows r g h = record { each = λ j y e. by j y (updated_get f rows r j y e) }
   where
     by : (j : ℕ) (y : Row) → (slice_get rows j ≡ Some y) ⊎ ((z : Row) × (r ≡ j) × (slice_get rows j ≡ Some z) × (y ≡ f z)) → RowFormed w y
-    by j y (inl k) = h.each j y k
-    by j y (inr k) = subst (RowFormed w) (sym k.3) (g k.0 (ap (slice_get rows) k.1 ∙ k.2))
+    by = grind arith
 
 -- The objects and the memory change, but not their setup.
 row_moved : (w v : WorldState) (x : Row) → OneWorldSetup w v → RowFormed w x → RowFormed v x

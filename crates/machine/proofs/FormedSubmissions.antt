@@ -74,8 +74,7 @@ formed_submitted m k f l = formed_cascaded_but (taken m k) direct (mostly_taken 
     puts = puts_more (65536 * ended_of m.table) _ m.world (let a = ended-append m.table batch in omega (arith, a)) f.puts
 
     at : (i : ℕ) (y : Row) → slice_get batch i ≡ Some y → (o : Option ℤ) → result_in direct (length m.table + i) ≡ o → RowFormed m.world y ⊎ ((res : ℤ) × (result_in direct (length m.table + i) ≡ Some res))
-    at i y e None g = inl (batch_row m.world (length m.table) (entries_for m k) i y e (unlisted_passes m.world (length m.table) (entries_for m k) i y e g))
-    at i y e (Some res) g = inr (res, g)
+    at = grind (arith, batch_row, unlisted_passes)
 
     by : (j : ℕ) (y : Row) → (slice_get m.table j ≡ Some y) ⊎ ((i : ℕ) × (j ≡ length m.table + i) × (slice_get batch i ≡ Some y)) → RowFormed m.world y ⊎ ((res : ℤ) × (result_in direct j ≡ Some res))
     by j y (inl e) = inl (f.rows j y e)
@@ -108,5 +107,4 @@ cascades_in m n k f l e = subst (λ (x : Machine). CascadesIn x direct) (sym e) 
     direct = direct_of m.world (length m.table) (entries_for m k)
 
     by : (r t : ℕ) (x : Row) → is_guard x ≡ true → is_unfinished x.phase ≡ true → x.target ≡ Some t → (slice_get m.table r ≡ Some x) ⊎ ((i : ℕ) × (r ≡ length m.table + i) × (slice_get batch i ≡ Some x)) → t + 1 ≡ r
-    by r t x g u w (inl h) = guards_linked m.table f.guards r t x h g u w
-    by r t x g u w (inr h) = batch_target_is m.world (length m.table) (entries_for m k) h.0 t x h.2 g w ∙ sym h.1
+    by = grind (arith, guards_linked, batch_target_is)

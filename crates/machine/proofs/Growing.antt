@@ -192,8 +192,7 @@ grows_issued m r (Some x) = by (lacks_descriptor m.world x)
     }
       where
         same : (row : Row) (c : Bool) → fixed_of (if c then started m.clock m.counted row else row) ≡ fixed_of row
-        same row true = refl
-        same row false = refl
+        same = grind arith
 
 pub grows_finished : (m : Machine) (r : ℕ) (c : Choice) → WellFormed m → (o : Option Row) → Grows m (finished m r o c)
 grows_finished m r c f None = grows_self m

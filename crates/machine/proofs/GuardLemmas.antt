@@ -1,5 +1,5 @@
 -- Linked timeouts come directly after their targets.
-use Rattle.std.proofs.Common.{◌≡◌, ℕ, ℤ, zero, suc, Bool, true, false, not, cond, refl, sym, ◌∙◌, ap, subst, List, [], ◌∷◌, ◌++◌, length, ◌+◌, ◌-◌, inl, inr, arith}
+use Rattle.std.proofs.Common.{◌≡◌, ℕ, ℤ, zero, suc, Bool, true, false, cond, refl, sym, ◌∙◌, ap, subst, List, [], ◌∷◌, ◌++◌, length, ◌+◌, ◌-◌, inl, inr, arith}
 use Rattle.std.specs.Prelude.{Option, Some, None, option_map, is_none, slice_get, ◌==◌, ◌&&◌, if◌then◌else◌}
 use Rattle.std.specs.Option.{option_and_then, option_map_or}
 use Rattle.std.specs.Result.{result_err}
@@ -66,16 +66,10 @@ before_of es zero h = absurd cc
 before_of es (suc j) h = by (slice_get es j) refl h
   where
     shown : (p : Sqe) → slice_get es j ≡ Some p → (b : Bool) → is_linked p ≡ b → can_guard (if b then Some p.opcode else None) ≡ true → Before es (suc j)
-    shown p e true l k = record { index = j; is = refl; entry = p; there = e; linked = l; other = negated (p.opcode == 15) k }
-      where
-        negated : (c : Bool) → not c ≡ true → c ≡ false
-        negated true q = absurd cc
-        negated false q = refl
-    shown p e false l k = absurd cc
+    shown = grind arith
 
     by : (o : Option Sqe) → slice_get es j ≡ o → can_guard (option_and_then shown_on o) ≡ true → Before es (suc j)
-    by None e k = absurd cc
-    by (Some p) e k = shown p e (is_linked p) refl k
+    by = grind arith
 
 pub batch_guard : (w : WorldState) (rows : List Row) (es : List Sqe) (i : ℕ) (x : Row) → slice_get (rows_of w (length rows) es) i ≡ Some x → is_guard x ≡ true → error_at w es i ≡ None
     → GuardIsLinked (rows ++ rows_of w (length rows) es) (length rows + i) x
@@ -127,12 +121,7 @@ batch_target_is w first es i t x h g k = by (error_of w es i b.entry) refl (sym 
     number = sym (ap is_guard b.is) ∙ g
 
     by : (o : Option ℤ) → error_of w es i b.entry ≡ o → (if (b.entry.opcode == 15) && is_none o then Some (first + i - 1) else None) ≡ Some t → t + 1 ≡ first + i
-    by None e q =
-        let v = before_of es i (passes_previous w (previous_in es i) b.entry (eqb-true b.entry.opcode 15 number) e) in
-        let s : first + i - 1 ≡ t = let o : Some (first + i - 1) ≡ Some t = sym (ap (λ c. if c && true then Some (first + i - 1) else None) number) ∙ q in cc in
-        let k = v.is in
-        omega (arith, s, k)
-    by (Some n) e q = absurd (let o : None ≡ Some t = sym (ap (λ c. if c && false then Some (first + i - 1) else None) number) ∙ q in cc)
+    by = grind (arith, before_of, passes_previous, eqb-true, number)
 
 -- ---- A request is issued together with its linked timeout
 

@@ -20,11 +20,9 @@ use Rattle.links_drains.proofs.Chains.{chained-none}
 use Rattle.machine.specs.Threads.{ThreadState, thread_start}
 use Rattle.scenario.specs.Setups.{setup_refusal, has_ring_sizes, is_between, is_completion_size, has_programs, is_program, is_instruction, has_memory, has_objects, has_descriptors}
 use Rattle.places.specs.declared.object.Contents.{Contents}
-use Rattle.places.specs.declared.object.Contents.TheVariants.{File, Pipe, EventFd}
 use Rattle.places.specs.declared.object.Object.{Object}
 use Rattle.std.specs.Option.{option_and_then}
 use Rattle.places.specs.declared.object.Descriptor.{Descriptor}
-use Rattle.model_files.specs.Pipes.{PipeState, pipe_start}
 use Rattle.model_files.specs.Worlds.{ContentsFit, PutsWithin, body_start, pipe_in, world_start}
 use Rattle.model_files.proofs.Forming.{world_start_formed}
 use Rattle.places.specs.declared.value.Stage.TheVariants.{Ready, Waiting}
@@ -86,9 +84,7 @@ puts_start : (memory : List ℕ) (os : List Object) (ds : List Descriptor) → P
 puts_start memory os ds o p h = by os o h
   where
     one : (c : Contents) → pipe_in (body_start c) ≡ Some p → p.put ≤ 0
-    one (File bytes) e = absurd cc
-    one (Pipe capacity) e = let same : pipe_start capacity ≡ p = cc in subst (λ (q : PipeState). q.put ≤ 0) same (omega arith)
-    one (EventFd counter) e = absurd cc
+    one = grind arith
 
     by : (xs : List Object) (i : ℕ) → option_and_then pipe_in (slice_get (map (λ (x : Object). body_start x.contents) xs) i) ≡ Some p → p.put ≤ 0
     by [] i e = absurd cc
