@@ -1,10 +1,10 @@
 -- Lemmas for finding the next number of a set by its words and their summary.
-use Rattle.std.proofs.Common.{◌≡◌, ℕ, ◌+◌, ◌*◌, ◌/◌, ◌%◌, ◌<◌, ◌≤◌, true, false, not, cond, ◌==◌, List, [], ◌∷◌, ◌++◌, length, get_or, set, replicate, refl, sym, ◌∙◌, inl, inr, arith}
+use Rattle.std.proofs.Common.{◌≡◌, ℕ, ◌+◌, ◌*◌, ◌/◌, ◌%◌, ◌<◌, ◌≤◌, true, false, not, cond, ◌==◌, List, [], ◌∷◌, ◌++◌, length, get_or, take, set, replicate, refl, sym, ◌∙◌, inl, inr, arith}
 use Rattle.std.specs.Int.{bit_at}
 use Rattle.std.proofs.lemmas.Bool.{cases_eq, cases_lt, not-false, not-true, eqb-true, eqb-false, eq-eqb, ne_eqb}
-use Rattle.std.proofs.lemmas.List.{get_or-set_same, get_or-set_other, get_or_past, get_or-replicate, length-replicate, length-set}
+use Rattle.std.proofs.lemmas.List.{get_or-set_same, get_or-set_other, get_or_past, get_or-take, get_or-replicate, length-replicate, length-set, length-take}
 use Rattle.std.proofs.lemmas.Nat.Bits.{bit_at-zero, same_from_bits}
-use Rattle.bit_sets.proofs.Bits.{none_in_zero, no_bits, has_grown as words_grown}
+use Rattle.bit_sets.proofs.Bits.{none_in_zero, no_bits, has_past, has_grown as words_grown}
 use Rattle.bit_sets.specs.Sets.{has, IsNextBit, IsNext, NoneFrom, Summed}
 
 -- ---- One number
@@ -42,6 +42,26 @@ summed_written words summary after at word s within l h = record {
     | inl same ↦ h w ∙ rw (same, eq-eqb at at refl, get_or-set_same words at word 0 within) refl
     | inr other ↦ h w ∙ rw (ne_eqb w at other, get_or-set_other words at w word 0 other) (s.sums w)
   ];
+}
+
+-- The words of the summary behind those in use have no bit.
+has_used : (words summary : List ℕ) (n w : ℕ) → Summed words summary → length words ≤ 64 * n → has (take n summary) w ≡ has summary w
+unfolding has
+has_used words summary n w s all = elim (cases_lt (w / 64) n) [
+  | inl inside ↦ rw (get_or-take n summary (w / 64) 0 inside) refl
+  | inr past ↦
+      let zero : get_or words w 0 ≡ 0 = get_or_past words w 0 (omega arith) in
+      has_past (take n summary) w (omega (arith, length-take n summary)) ∙ sym (s.sums w ∙ rw zero refl)
+]
+
+pub none_used : (words summary : List ℕ) (n from : ℕ) → Summed words summary → length words ≤ 64 * n → NoneFrom (take n summary) from → NoneFrom summary from
+none_used words summary n from s all none w low = sym (has_used words summary n w s all) ∙ none w low
+
+pub next_used : (words summary : List ℕ) (n from w : ℕ) → Summed words summary → length words ≤ 64 * n → IsNext (take n summary) from w → IsNext summary from w
+next_used words summary n from w s all next = record {
+  after = next.after;
+  member = sym (has_used words summary n w s all) ∙ next.member;
+  least = λ v low high. sym (has_used words summary n v s all) ∙ next.least v low high;
 }
 
 -- ---- The next number
@@ -115,3 +135,6 @@ pub word_not_zero : (words summary : List ℕ) (w : ℕ) → Summed words summar
 word_not_zero words summary w s member none =
     eqb-false (get_or words w 0) 0 (not-true _ (sym (s.sums w) ∙ member))
     (same_from_bits (get_or words w 0) 0 (λ b. none b (omega arith) ∙ sym (bit_at-zero b)))
+
+pub used_within : (words summary : List ℕ) (n from w : ℕ) → Summed words summary → length words ≤ 64 * n → IsNext (take n summary) from w → w < length words
+used_within words summary n from w s all next = word_there words summary w s (next_used words summary n from w s all next).member

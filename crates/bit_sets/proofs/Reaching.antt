@@ -1,5 +1,5 @@
 -- Lemmas about thresholds and the minima of their blocks.
-use Rattle.std.proofs.Common.{◌≡◌, ℕ, ◌+◌, ◌-◌, ◌*◌, ◌/◌, ◌<◌, ◌≤◌, List, length, set, drop, min, sym, ap, ◌∙◌, inl, inr, subst, arith}
+use Rattle.std.proofs.Common.{◌≡◌, ℕ, zero, suc, refl, [], ◌∷◌, ◌++◌, replicate, ◌+◌, ◌-◌, ◌*◌, ◌/◌, ◌<◌, ◌≤◌, List, length, set, drop, min, sym, ap, ◌∙◌, inl, inr, subst, arith}
 use Rattle.std.proofs.lemmas.Bool.{cases_eq, cases_lt}
 use Rattle.std.specs.Prelude.{slice_range}
 use Rattle.std.proofs.lemmas.List.{get_or-set_same, get_or-drop, get_or-take, get_or-set_other, get_or_past, length-set}
@@ -53,3 +53,22 @@ block_bound xs k i end x same last most h = bound_at xs i x most (λ inside. h i
 -- A bound of all items of the list bounds the threshold of every number.
 pub whole_bound : (xs : List ℕ) (i x : ℕ) → x < never + 1 → ((j : ℕ) → 0 ≤ j → j < length xs → x ≤ threshold_at xs j) → x ≤ threshold_at xs i
 whole_bound xs i x most h = bound_at xs i x most (λ inside. h i (omega arith) inside)
+
+-- ---- Room is made
+
+-- `never` past the end changes no threshold.
+pub extended : (xs : List ℕ) (n i : ℕ) → threshold_at (xs ++ replicate n never) i ≡ threshold_at xs i
+extended [] zero i = refl
+extended [] (suc n) zero = refl
+extended [] (suc n) (suc i) = extended [] n i
+extended (x ∷ xs) n zero = refl
+extended (x ∷ xs) n (suc i) = extended xs n i
+
+pub bounded_more : (each minima more blocks : List ℕ) (least : ℕ) → Bounded each minima least → ((i : ℕ) → threshold_at more i ≡ threshold_at each i) → ((w : ℕ) → threshold_at blocks w ≡ threshold_at minima w) → length blocks ≤ 256
+    → length more ≤ 256 * length blocks → Bounded more blocks least
+bounded_more each minima more blocks least b e m few covered = record {
+  few = few;
+  covered = covered;
+  blocks = λ k. omega (arith, e k, m (k / 256), b.blocks k);
+  all = λ w. omega (arith, m w, b.all w);
+}

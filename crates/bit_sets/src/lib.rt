@@ -2,6 +2,7 @@
 //! The request table uses both as indexes over its rows.
 #![tactic(auto)]
 
+mod pieces;
 pub mod sets;
 pub mod thresholds;
 

@@ -5,6 +5,7 @@ ghost use Rattle.bit_sets.specs.Sets.{has, IsNextBit, IsNext, NoneFrom};
 
 mod difference;
 
+use crate::pieces::copied;
 use std::alloc::{AllocError, Global};
 use std::marker::Model;
 
@@ -88,7 +89,7 @@ impl BitSet {
         if let Some(bit) = next_bit(self.words[first], from % 64) {
             return Some(first * 64 + bit);
         }
-        let at = next_number(&self.summary, first + 1)?;
+        let at = next_number(&self.summary[..self.words.len().div_ceil(64)], first + 1)?;
         let bit = next_bit(self.words[at], 0)?;
         Some(at * 64 + bit)
     }
@@ -119,7 +120,7 @@ impl BitSet {
         ensures { IfOk result (λ set. set ≡ self.now) }
     {
         Ok(BitSet {
-            words: Vec::from_slice(alloc, &self.words)?,
+            words: copied(alloc, &self.words)?,
             summary: self.summary,
         })
     }

@@ -1,8 +1,9 @@
 //! Thresholds of numbers, with minima of blocks, to find the least number whose threshold is
 //! reached. The request table stores here the totals at which counting TIMEOUTs complete.
-ghost use Rattle.std.specs.Prelude.{◌≡◌, ◌≢◌, ℕ, ◌+◌, ◌-◌, ◌^◌, ◌<◌, ◌≤◌, ◌==◌, [], IfOk, IfSome, IfNone, OnOk, length, if◌then◌else◌};
-ghost use Rattle.bit_sets.specs.Thresholds.{threshold_at, IsNextReached, NoneReachedFrom};
+ghost use Rattle.std.specs.Prelude.{◌≡◌, ◌≢◌, ◌⊎◌, ℕ, ◌+◌, ◌-◌, ◌^◌, ◌<◌, ◌≤◌, ◌==◌, [], IfOk, IfSome, IfNone, OnOk, length, max, if◌then◌else◌};
+ghost use Rattle.bit_sets.specs.Thresholds.{never, threshold_at, IsNextReached, NoneReachedFrom};
 
+use crate::pieces::copied;
 use std::alloc::{AllocError, Global};
 use std::marker::Model;
 
@@ -12,7 +13,8 @@ pub const NEVER: u32 = u32::MAX;
 /// How many numbers share one minimum.
 const BLOCK: usize = 256;
 
-/// A threshold for each number below 65,536. Contracts see it as the list of thresholds.
+/// A threshold for each number below 65,536: `NEVER` past the end of the list. Contracts see it as the
+/// list of thresholds.
 #[derive(Drop)]
 pub struct Thresholds {
     each: Vec<u32>,
@@ -45,32 +47,30 @@ impl Thresholds {
         }
     }
 
-    /// Allocates the threshold of number k, if it is missing, as `NEVER`. There must be room for
-    /// every number below k. If an allocation fails, no threshold has changed.
+    /// Allocates the thresholds up to that of number k, each as `NEVER`, if they are missing. If an
+    /// allocation fails, no threshold has changed.
     pub fn make_room(&mut self, k: usize) -> Result<(), AllocError>
-        requires below { k ≤ length self.old }
-        requires small { k < 65536 }
+        requires { k < 65536 }
         ensures ok { OnOk result (k < length self.new) }
         ensures len { length self.old ≤ length self.new }
         ensures at { (i : ℕ) → threshold_at self.new i ≡ threshold_at self.old i }
     {
-        if k / BLOCK >= self.minima.len() {
-            self.minima.push(NEVER)?;
-        }
-        if k >= self.each.len() {
-            self.each.push(NEVER)?;
-        }
-        Ok(())
+        extend_to(&mut self.minima, k / BLOCK + 1)?;
+        extend_to(&mut self.each, k + 1)
     }
 
-    /// Sets the threshold of k, for which there must be room. Allocates nothing. Constant time if
-    /// the threshold stays the same; otherwise it scans at most one block and the minima.
+    /// Sets the threshold of k, for which there must be room unless it is `NEVER`. Allocates
+    /// nothing. Constant time if the threshold stays the same; otherwise it scans at most one block
+    /// and the minima.
     pub fn write(&mut self, k: usize, threshold: u32)
-        requires { k < length self.old }
+        requires { (threshold ≡ never) ⊎ (k < length self.old) }
         ensures len { length self.new ≡ length self.old }
         ensures at { (i : ℕ) → threshold_at self.new i
             ≡ (if i == k then threshold else threshold_at self.old i) }
     {
+        if k >= self.each.len() {
+            return;
+        }
         let old = self.each[k];
         if old == threshold {
             return;
@@ -113,11 +113,25 @@ impl Thresholds {
         ensures { IfOk result (λ thresholds. thresholds ≡ self.now) }
     {
         Ok(Thresholds {
-            each: Vec::from_slice(alloc, &self.each)?,
-            minima: Vec::from_slice(alloc, &self.minima)?,
+            each: copied(alloc, &self.each)?,
+            minima: copied(alloc, &self.minima)?,
             least: self.least,
         })
     }
+}
+
+// Adds `NEVER` until there are n thresholds.
+fn extend_to(thresholds: &mut Vec<u32>, n: usize) -> Result<(), AllocError>
+    ensures ok { OnOk result (n ≤ length thresholds.new.items) }
+    ensures len { length thresholds.old.items ≤ length thresholds.new.items }
+    ensures most { length thresholds.new.items ≤ max (length thresholds.old.items) n }
+    ensures at { (i : ℕ) → threshold_at thresholds.new.items i
+        ≡ threshold_at thresholds.old.items i }
+{
+    if thresholds.len() < n {
+        thresholds.resize(n, NEVER)?;
+    }
+    Ok(())
 }
 
 // Returns a lower bound of the thresholds from `from` to `end`, after that of k changed from `old`.

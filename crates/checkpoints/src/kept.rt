@@ -2,11 +2,11 @@
 ghost use Rattle.std.specs.Prelude.{◌≡◌, ◌<◌, ◌/◌, ◌++◌, [], length, slice_get, Some, IsOk, OnOk, OnErr};
 ghost use Rattle.checkpoints.specs.Checkpoints.{no_states, nearest as nearest_to, IsNearest};
 
-use machine::State;
+use machine::Snapshot;
 use std::alloc::{AllocError, Global};
 use std::marker::Model;
 
-/// Checkpoints: the states at moments 0, `every`, 2 * `every` and so on. It also stores `window`,
+/// Checkpoints: copies of the states at moments 0, `every`, 2 * `every` and so on. It also stores `window`,
 /// the greatest distance that a jump goes back by undoing single steps.
 ///
 /// The list does not know the run: its caller adds the right states in order.
@@ -14,7 +14,7 @@ use std::marker::Model;
 pub struct Kept {
     every: u32,
     window: u32,
-    states: Vec<State>,
+    states: Vec<Snapshot>,
 }
 
 impl Model for Kept {
@@ -62,9 +62,9 @@ impl Kept {
         self.states.len()
     }
 
-    /// Appends the states at the next multiples of `every`, in order. If the allocation fails, the
-    /// list stays as it was and the states are dropped.
-    pub fn keep(&mut self, mut states: Vec<State>) -> Result<(), AllocError>
+    /// Appends copies of the states at the next multiples of `every`, in order. If the allocation fails, the
+    /// list stays as it was and the copies are dropped.
+    pub fn keep(&mut self, mut states: Vec<Snapshot>) -> Result<(), AllocError>
         ensures ok { OnOk result (self.new
             ≡ record self.old { states = self.old.states ++ states.items }) }
         ensures none { states.items ≡ [] → IsOk result }
@@ -81,8 +81,8 @@ impl Kept {
         moment - moment % self.every
     }
 
-    /// Returns the state of that checkpoint, which must have been added.
-    pub fn state(&self, moment: u32) -> &State
+    /// Returns the copy of that checkpoint, which must have been added.
+    pub fn state(&self, moment: u32) -> &Snapshot
         requires { moment / self.now.every < length self.now.states }
         ensures { slice_get self.now.states (moment / self.now.every) ≡ Some result.now }
     {

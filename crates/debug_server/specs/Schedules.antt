@@ -7,14 +7,19 @@ use Rattle.scenario.specs.declared.event.Refusal.TheVariants as refusal
 use Rattle.machine.specs.Runs.{IsRefused}
 use Rattle.inverse_log.specs.declared.refusal.ExtendRefusal.{ExtendRefusal}
 use Rattle.inverse_log.specs.declared.refusal.ExtendRefusal.TheVariants.{TraceFull, Refused}
-use Rattle.inverse_log.specs.Walks.{Walk, fresh, moved, extended}
+use Rattle.inverse_log.specs.Walks.{Walk, fresh_with, moved, extended}
 use Rattle.debug_server.specs.SessionStates.{SessionState, without_stops}
 use Rattle.debug_server.specs.declared.faults.RunFault.{RunFault}
 use Rattle.debug_server.specs.declared.faults.RunFault.TheVariants.{Script, Schedule, Serve, Memory, Net, Trace}
 
+-- The walk of a session without events. It keeps a checkpoint each 256 events, and undoes at most
+-- 256 events one by one.
+abbrev pub opened : Setup → Walk
+opened setup = fresh_with setup 256 256
+
 -- The walk over some events, at their end.
 abbrev pub walk_over : Setup → List Event → Walk
-walk_over setup es = moved (extended (fresh setup) es) (length es)
+walk_over setup es = moved (extended (opened setup) es) (length es)
 
 -- The session's state there, without watches and breaks.
 abbrev pub state_over : Setup → List Event → SessionState

@@ -4,10 +4,10 @@ ghost use Rattle.machine.specs.Runs.{start, Accepts, IsRefused};
 ghost use Rattle.scenario.specs.declared.event.Refusal.{Refusal};
 ghost use Rattle.scenario.specs.Setups.{setup_refusal};
 ghost use Rattle.scenario.specs.declared.setup.Setup.{Setup};
-ghost use Rattle.inverse_log.specs.Walks.{ending, fresh, moved, extended};
+ghost use Rattle.inverse_log.specs.Walks.{ending, moved, extended};
 ghost use Rattle.debug_server.specs.Kinds.{IsOf, OfSchedule, OfMemory};
 ghost use Rattle.debug_server.specs.Replies.{reply};
-ghost use Rattle.debug_server.specs.Schedules.{state_over, StopsBy, fault_of};
+ghost use Rattle.debug_server.specs.Schedules.{opened, state_over, StopsBy, fault_of};
 ghost use Rattle.debug_server.specs.SessionStates.{Runs, without_stops};
 
 use crate::answering;
@@ -20,6 +20,12 @@ use script::Script;
 use std::alloc::{AllocError, Global};
 use std::marker::Model;
 use watches::Watches;
+
+/// The number of events between two checkpoints of a session.
+const CHECKPOINT_EVERY: u32 = 256;
+
+/// The greatest number of events that a jump of a session undoes one by one.
+const WINDOW: u32 = 256;
 
 /// A debugger session over a run.
 pub struct Session {
@@ -81,10 +87,10 @@ impl Session {
     /// Opens a session over a script's setup, without events. A source can supply events later.
     pub fn live(alloc: Global, script: &Script) -> Result<Session, RunFault>
         ensures ok { IfOk result (λ s. s
-            ≡ record { state = without_stops (fresh script.now.setup); is_closed = false }) }
+            ≡ record { state = without_stops (opened script.now.setup); is_closed = false }) }
         ensures err { IfErr result (λ e. e ≡ RunFault.Memory) }
     {
-        match Walker::new(alloc, script.setup()) {
+        match Walker::with(alloc, script.setup(), CHECKPOINT_EVERY, WINDOW) {
             Ok(walker) => Ok(over_walk(alloc, walker)),
             Err(_) => Err(RunFault::Memory),
         }
@@ -134,7 +140,7 @@ fn session_of(alloc: Global, setup: &Setup, events: &[Event]) -> Result<Session,
         → IsRefused setup.now events.now i n) }
     ensures other { IfErr result (IsOf (OfSchedule ∷ OfMemory ∷ [])) }
 {
-    let Ok(mut walker) = Walker::new(alloc, setup) else {
+    let Ok(mut walker) = Walker::with(alloc, setup, CHECKPOINT_EVERY, WINDOW) else {
         return Err(RunFault::Memory);
     };
     match run_through(&mut walker, events) {
@@ -163,7 +169,7 @@ fn run_through(walker: &mut Walker, events: &[Event]) -> Result<(), RunFault>
     ensures ok { OnOk result (walker.new
         ≡ moved (extended walker.old events.now) (length walker.old.events + length events.now)) }
     ensures accepts { OnOk result (Accepts (ending walker.old) events.now) }
-    ensures stops { IfErr result (λ e. (setup : Setup) → walker.old ≡ fresh setup
+    ensures stops { IfErr result (λ e. (setup : Setup) → walker.old ≡ opened setup
         → StopsBy setup events.now e) }
 {
     match walker.run_on(events) {

@@ -47,18 +47,18 @@ impl Phase {
 }
 
 impl Row {
-    /// Returns whether two rows are equal in every field.
+    /// Returns whether two rows are equal in every field. Tests those that a step changes first.
     pub fn equals(&self, other: &Row) -> bool
         ensures { IsTrue result ↔ (self.now ≡ other.now) }
     {
-        self.entry.equals(&other.entry)
-            && self.phase.equals(&other.phase)
+        self.phase.equals(&other.phase)
             && self.unit == other.unit
             && self.base == other.base
             && is_same_number(self.target, other.target)
             && is_same_number(self.held, other.held)
             && is_same_time(self.time, other.time)
             && is_same_time(self.deadline, other.deadline)
+            && self.entry.equals(&other.entry)
     }
 }
 

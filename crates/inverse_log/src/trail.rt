@@ -8,7 +8,7 @@ ghost use Rattle.machine.specs.Runs.{start, moment, Accepts, Linked, setup_refus
 ghost use Rattle.inverse_log.specs.Tracks.{tallied as tallied_by};
 
 use crate::refusal::ExtendRefusal;
-use machine::{Event, Refusal, Setup, SetupRefusal, State};
+use machine::{Event, Refusal, Setup, SetupRefusal, Snapshot, State};
 use places::Record;
 use std::alloc::{AllocError, Global};
 use std::marker::Model;
@@ -23,6 +23,8 @@ pub struct Trail {
     records: Vec<Record>,
     at: usize,
     state: State,
+    /// A state whose storage the next far jump reuses.
+    spare: Option<State>,
     walked: u64,
 }
 
@@ -65,6 +67,7 @@ impl Trail {
                 records: Vec::new(alloc),
                 at: 0,
                 state,
+                spare: None,
                 walked: 0,
             }),
             Err(_) => Err(SetupRefusal::Memory),
@@ -155,21 +158,25 @@ impl Trail {
         Ok(())
     }
 
-    /// Goes to the moment `to` from `state`, a copy of moment `from`, by single steps. If an
-    /// allocation fails, the position is unchanged.
+    /// Goes to the moment `to` from a copy of moment `from` by single steps. If an allocation
+    /// fails, the position is unchanged.
     pub fn on_from(
         &mut self,
-        mut state: State,
+        copy: &Snapshot,
         from: usize,
         to: usize,
         tally: Tally,
     ) -> Result<(), AllocError>
-        requires state { state ≡ moment self.old.setup self.old.events from }
+        requires state { copy.now ≡ moment self.old.setup self.old.events from }
         requires later { from ≤ to }
         requires within { to ≤ length self.old.events }
         ensures ok { OnOk result (self.new ≡ reached tally self.old to (to - from)) }
         ensures err { OnErr result (self.new ≡ self.old) }
     {
+        let mut state = match self.spare.take() {
+            Some(room) => copy.restore(self.alloc, room)?,
+            None => copy.to_state(self.alloc)?,
+        };
         self.state.exchange(&mut state);
         let at = mem::replace(&mut self.at, from);
         let gone = self.on_to(to, tally);
@@ -177,13 +184,14 @@ impl Trail {
             self.state.exchange(&mut state);
             self.at = at;
         }
+        self.spare = Some(state);
         gone
     }
 
     /// Appends events and applies them, one step each, from the end of the run to the new end.
     /// Returns copies of the states at the multiples of `every` that the run passes. If an event is
     /// refused, none is appended.
-    pub fn run_on(&mut self, events: &[Event], every: u32) -> Result<Vec<State>, ExtendRefusal>
+    pub fn run_on(&mut self, events: &[Event], every: u32) -> Result<Vec<Snapshot>, ExtendRefusal>
         requires last { self.old.at ≡ length self.old.events }
         requires some { 0 < every }
         requires room { length self.old.events + length events.now ≤ 1048576 }
@@ -204,6 +212,14 @@ impl Trail {
             self.cut(len);
         }
         added
+    }
+
+    /// Returns a copy of the state at the position.
+    pub fn snapshot(&mut self) -> Result<Snapshot, AllocError>
+        ensures ok { IfOk result (λ copy. copy ≡ current self.old) }
+        ensures same { self.new ≡ self.old }
+    {
+        self.state.snapshot(self.alloc)
     }
 
     /// Truncates the run to its first `len` events.
@@ -272,23 +288,24 @@ impl Trail {
 
     // Pushes a copy of the state at the end of the run to `copies`, if its moment
     // is a multiple of `every`.
-    fn copy_at(&self, every: u32, copies: &mut Vec<State>) -> Result<(), AllocError>
-        requires last { self.now.at ≡ length self.now.events }
+    fn copy_at(&mut self, every: u32, copies: &mut Vec<Snapshot>) -> Result<(), AllocError>
+        requires last { self.old.at ≡ length self.old.events }
         requires some { 0 < every }
+        ensures same { self.new ≡ self.old }
         ensures covers { OnOk result ((events : List Event) (event : Event) (xs : List Machine)
-            → self.now.events ≡ events ++ event ∷ []
-            → Covers self.now.setup events every (xs ++ copies.old.items)
-            → Covers self.now.setup self.now.events every (xs ++ copies.new.items)) }
+            → self.old.events ≡ events ++ event ∷ []
+            → Covers self.old.setup events every (xs ++ copies.old.items)
+            → Covers self.old.setup self.old.events every (xs ++ copies.new.items)) }
     {
         if self.at % every as usize == 0 {
-            copies.push(self.state.copy(self.alloc)?)?;
+            copies.push(self.snapshot()?)?;
         }
         Ok(())
     }
 
     // Appends events and applies them, up to the first that is refused. Returns copies of the
     // states at the multiples of `every`. After an error the accepted events are still there.
-    fn push_all(&mut self, events: &[Event], every: u32) -> Result<Vec<State>, ExtendRefusal>
+    fn push_all(&mut self, events: &[Event], every: u32) -> Result<Vec<Snapshot>, ExtendRefusal>
         requires last { self.old.at ≡ length self.old.events }
         requires some { 0 < every }
         requires room { length self.old.events + length events.now ≤ 1048576 }

@@ -4,6 +4,7 @@ ghost use Rattle.std.specs.Prelude.{◌≡◌, ℕ, ◌-◌, ◌+◌, ◌^◌, �
 ghost use Rattle.scenario.specs.declared.event.Refusal.{Refusal};
 ghost use Rattle.scenario.specs.declared.setup.SetupRefusal.{SetupRefusal};
 ghost use Rattle.machine.specs.Runs.{start, run, Accepts, Linked, setup_refusal};
+ghost use Rattle.inverse_log.specs.Tracks.{current};
 
 use crate::refusal::{ExtendRefusal, WalkRefusal};
 use crate::trail::{Tally, Trail};
@@ -82,8 +83,8 @@ impl Walker {
         ensures only_memory { IfErr result (λ r. setup_refusal setup.now ≡ None
             → r ≡ SetupRefusal.Memory) }
     {
-        let trail = Trail::new(alloc, setup)?;
-        match kept_first(alloc, trail.state(), every, window) {
+        let mut trail = Trail::new(alloc, setup)?;
+        match kept_first(alloc, &mut trail, every, window) {
             Ok(kept) => Ok(Walker { alloc, trail, kept }),
             Err(_) => Err(SetupRefusal::Memory),
         }
@@ -285,7 +286,7 @@ impl Walker {
     {
         let len = self.len() as u32;
         let nearest = self.kept.nearest(len);
-        let state = self.kept.state(len).copy(self.alloc)?;
+        let state = self.kept.state(len).to_state(self.alloc)?;
         state_after(state, &self.events()[nearest as usize..])
     }
 
@@ -326,21 +327,22 @@ impl Walker {
         if nearest as usize <= at && at <= moment as usize {
             self.trail.on_to(moment as usize, tally)
         } else {
-            let state = self.kept.state(moment).copy(self.alloc)?;
+            let copy = self.kept.state(moment);
             self.trail
-                .on_from(state, nearest as usize, moment as usize, tally)
+                .on_from(copy, nearest as usize, moment as usize, tally)
         }
     }
 }
 
-// Returns the checkpoints of a run without events: its start only.
-fn kept_first(alloc: Global, state: &State, every: u32, window: u32) -> Result<Kept, AllocError>
+// Returns the checkpoints of a run at its start: a copy of its state.
+fn kept_first(alloc: Global, trail: &mut Trail, every: u32, window: u32) -> Result<Kept, AllocError>
     requires { 0 < every }
-    ensures { IfOk result (λ k. k
-        ≡ record { every = every; window = window; states = state.now ∷ [] }) }
+    ensures ok { IfOk result (λ k. k
+        ≡ record { every = every; window = window; states = current trail.old ∷ [] }) }
+    ensures same { trail.new ≡ trail.old }
 {
     let mut kept = Kept::new(alloc, every, window);
-    kept.keep(vec![in alloc; state.copy(alloc)?]?)?;
+    kept.keep(vec![in alloc; trail.snapshot()?]?)?;
     Ok(kept)
 }
 

@@ -1,10 +1,10 @@
 -- The requests of a batch that complete as they are submitted, computed row by row.
-use Rattle.std.proofs.Common.{◌≡◌, ℕ, ℤ, zero, suc, Bool, true, false, cond, refl, sym, ◌∙◌, ap, List, [], ◌∷◌, ◌++◌, take, length, replicate, get_or, ◌<◌, ◌≤◌, ◌+◌, ◌-◌, arith}
+use Rattle.std.proofs.Common.{◌≡◌, ℕ, ℤ, zero, suc, Bool, true, false, cond, refl, sym, ◌∙◌, ap, List, [], ◌∷◌, ◌++◌, take, drop, length, replicate, get_or, ◌<◌, ◌≤◌, ◌+◌, ◌-◌, arith}
 use Rattle.std.specs.Prelude.{Option, Some, None, option_map, is_some, slice_get, slice_set, ◌==◌, ◌&&◌, ◌||◌}
 use Rattle.std.specs.Option.{option_and_then}
 use Rattle.std.specs.List.{cons_option, list_any, enumerate_from}
 use Rattle.std.proofs.lemmas.Bool.{eq-eqb, eqb-true, ne_eqb, and_left, and_right}
-use Rattle.std.proofs.lemmas.List.{length-set, length-replicate, length-take-le, take_all}
+use Rattle.std.proofs.lemmas.List.{get_or-drop, length-drop, length-set, length-replicate, length-take-le, take_all}
 use Rattle.std.proofs.lemmas.List.FromFn.{length-enumerate_from}
 use Rattle.std.proofs.lemmas.List.Folds.{list_any-append}
 use Rattle.std.proofs.lemmas.Option.{slice_get-get_or, get_or_from_slice_get}
@@ -37,6 +37,13 @@ chain_is w first es rows i d b h = let u = unit_of w first es rows i d b h in om
 -- There are as many rows as entries.
 pub many : (w : WorldState) (first : ℕ) (es : List Sqe) (rows : List Row) → rows ≡ rows_of w first es → length rows ≡ length es
 many w first es rows b = ap length b ∙ length-rows_of w first es
+
+-- A row at the end of a table, in the batch that the table ends with.
+pub row_in_batch : (rows : List Row) (first i : ℕ) (row : Row) → row ≡ get_or rows (first + i) row → row ≡ get_or (drop first rows) i row
+row_in_batch rows first i row is = is ∙ sym (get_or-drop first rows i row)
+
+pub there_in_batch : (w : WorldState) (first : ℕ) (es : List Sqe) (rows : List Row) (i : ℕ) → drop first rows ≡ rows_of w first es → i < length es → first + i < length rows
+there_in_batch w first es rows i b h = let n = many w first es (drop first rows) b in let l = length-drop first rows in omega (arith, n, l, h)
 
 -- ---- Chains that fail
 

@@ -37,29 +37,16 @@ zero_pushed [] (suc i) = refl
 zero_pushed (x ∷ xs) zero = refl
 zero_pushed (x ∷ xs) (suc i) = zero_pushed xs i
 
--- The finder was copied.
-pub findable_same : (rows : List Row) (f g : Finder) → Findable rows f → g.last.items ≡ f.last.items → g.previous.items ≡ f.previous.items → g.holding ≡ f.holding → Findable rows g
-findable_same rows f g h last previous holding = record {
-  room = λ l. let p = h.room l in record {
-    last = let n = ap length last in let k = p.last in omega (arith, n, k);
-    previous = let n = ap length previous in let k = p.previous in omega (arith, n, k);
-    holding = let n = ap length holding in let k = p.holding in omega (arith, n, k);
-  };
-  last = λ r row k. let n = ap (λ xs. get_or xs (row_hash row) 0) last in let o = h.last r row k in omega (arith, n, o);
-  previous = λ q r other row a b l e. let n = ap (λ xs. get_or xs r 0) previous in let o = h.previous q r other row a b l e in omega (arith, n, o);
-  holding = λ r fd row k e. ap (λ (w : List ℕ). has w (mark_of fd r)) holding ∙ h.holding r fd row k e;
-}
-
 -- Room for a link was made.
-pub findable_room : (rows : List Row) (f g : Finder) → Findable rows f → g.last ≡ f.last → g.holding ≡ f.holding → g.previous.items ≡ f.previous.items ++ 0 ∷ [] → Findable rows g
+pub findable_room : (rows : List Row) (f g : Finder) → Findable rows f → g.last ≡ f.last → g.holding ≡ f.holding → g.previous ≡ f.previous ++ 0 ∷ [] → Findable rows g
 findable_room rows f g h last holding previous = record {
   room = λ l. let p = h.room l in record {
-    last = let n = ap (λ v. length v.items) last in let k = p.last in omega (arith, n, k);
-    previous = let n = ap length previous ∙ length-pushed f.previous.items in let k = p.previous in omega (arith, n, k);
+    last = let n = ap length last in let k = p.last in omega (arith, n, k);
+    previous = let n = ap length previous ∙ length-pushed f.previous in let k = p.previous in omega (arith, n, k);
     holding = let n = ap length holding in let k = p.holding in omega (arith, n, k);
   };
   last = λ r row k. rw last (h.last r row k);
-  previous = λ q r other row a b l e. let n = ap (λ xs. get_or xs r 0) previous ∙ zero_pushed f.previous.items r in let k = h.previous q r other row a b l e in omega (arith, n, k);
+  previous = λ q r other row a b l e. let n = ap (λ xs. get_or xs r 0) previous ∙ zero_pushed f.previous r in let k = h.previous q r other row a b l e in omega (arith, n, k);
   holding = λ r fd row k e. ap (λ (w : List ℕ). has w (mark_of fd r)) holding ∙ h.holding r fd row k e;
 }
   where
@@ -76,11 +63,11 @@ place_at rows r f within h =
 -- ---- A request is added
 
 pub findable_push : (rows : List Row) (row : Row) (r : ℕ) (f g h : Finder) → HasPlace (r + 1) f → length rows ≡ r → Findable rows f
-    → g.last.items ≡ set f.last.items (row_hash row) (r + 1) → g.previous.items ≡ set f.previous.items r (get_or f.last.items (row_hash row) 0) → g.holding ≡ f.holding → IsMarked r row g h → Findable (rows ++ row ∷ []) h
+    → g.last ≡ set f.last (row_hash row) (r + 1) → g.previous ≡ set f.previous r (get_or f.last (row_hash row) 0) → g.holding ≡ f.holding → IsMarked r row g h → Findable (rows ++ row ∷ []) h
 findable_push rows row r f g h place n old last previous holding m = record {
   room = λ l. record {
-    last = let a = ap length lasts ∙ length-set f.last.items (row_hash row) (r + 1) in let b = place.last in omega (arith, a, b);
-    previous = let a = ap length links ∙ length-set f.previous.items r (get_or f.last.items (row_hash row) 0) in let b = place.previous in let c = length-push rows row in omega (arith, a, b, c, n);
+    last = let a = ap length lasts ∙ length-set f.last (row_hash row) (r + 1) in let b = place.last in omega (arith, a, b);
+    previous = let a = ap length links ∙ length-set f.previous r (get_or f.last (row_hash row) 0) in let b = place.previous in let c = length-push rows row in omega (arith, a, b, c, n);
     holding = let a = m.room in let b = ap length holding in let c = place.holding in omega (arith, a, b, c);
   };
   last = λ q x k. last_at q x (pushed rows row q x k);
@@ -88,37 +75,37 @@ findable_push rows row r f g h place n old last previous holding m = record {
   holding = λ q fd x k e. holding_at q fd x (pushed rows row q x k) e;
 }
   where
-    lasts : h.last.items ≡ set f.last.items (row_hash row) (r + 1)
-    lasts = ap (λ v. v.items) m.last ∙ last
+    lasts : h.last ≡ set f.last (row_hash row) (r + 1)
+    lasts = m.last ∙ last
 
-    links : h.previous.items ≡ set f.previous.items r (get_or f.last.items (row_hash row) 0)
-    links = ap (λ v. v.items) m.previous ∙ previous
+    links : h.previous ≡ set f.previous r (get_or f.last (row_hash row) 0)
+    links = m.previous ∙ previous
 
-    hashed : row_hash row < length f.last.items
+    hashed : row_hash row < length f.last
     hashed = let a = place.last in omega (arith, a)
 
-    last_here : get_or h.last.items (row_hash row) 0 ≡ r + 1
-    last_here = ap (λ xs. get_or xs (row_hash row) 0) lasts ∙ get_or-set_same f.last.items (row_hash row) (r + 1) 0 hashed
+    last_here : get_or h.last (row_hash row) 0 ≡ r + 1
+    last_here = ap (λ xs. get_or xs (row_hash row) 0) lasts ∙ get_or-set_same f.last (row_hash row) (r + 1) 0 hashed
 
-    last_at : (q : ℕ) (x : Row) → (slice_get rows q ≡ Some x) ⊎ ((q ≡ length rows) × (row ≡ x)) → q < get_or h.last.items (row_hash x) 0
+    last_at : (q : ℕ) (x : Row) → (slice_get rows q ≡ Some x) ⊎ ((q ≡ length rows) × (row ≡ x)) → q < get_or h.last (row_hash x) 0
     last_at q x (inl k) = elim (cases_eq (row_hash x) (row_hash row)) [
-      | inl same ↦ let w = slice_get_within rows q x k in let e = ap (λ i. get_or h.last.items i 0) same ∙ last_here in omega (arith, w, e, n)
-      | inr other ↦ let e = ap (λ xs. get_or xs (row_hash x) 0) lasts ∙ get_or-set_other f.last.items (row_hash row) (row_hash x) (r + 1) 0 other in let o = old.last q x k in omega (arith, e, o)
+      | inl same ↦ let w = slice_get_within rows q x k in let e = ap (λ i. get_or h.last i 0) same ∙ last_here in omega (arith, w, e, n)
+      | inr other ↦ let e = ap (λ xs. get_or xs (row_hash x) 0) lasts ∙ get_or-set_other f.last (row_hash row) (row_hash x) (r + 1) 0 other in let o = old.last q x k in omega (arith, e, o)
     ]
-    last_at q x (inr k) = let e = ap (λ (y : Row). get_or h.last.items (row_hash y) 0) (sym k.1) ∙ last_here in let a = k.0 in omega (arith, e, a, n)
+    last_at q x (inr k) = let e = ap (λ (y : Row). get_or h.last (row_hash y) 0) (sym k.1) ∙ last_here in let a = k.0 in omega (arith, e, a, n)
 
-    previous_at : (q p : ℕ) (y x : Row) → (slice_get rows q ≡ Some y) ⊎ ((q ≡ length rows) × (row ≡ y)) → (slice_get rows p ≡ Some x) ⊎ ((p ≡ length rows) × (row ≡ x)) → q < p → row_hash y ≡ row_hash x → q < get_or h.previous.items p 0
+    previous_at : (q p : ℕ) (y x : Row) → (slice_get rows q ≡ Some y) ⊎ ((q ≡ length rows) × (row ≡ y)) → (slice_get rows p ≡ Some x) ⊎ ((p ≡ length rows) × (row ≡ x)) → q < p → row_hash y ≡ row_hash x → q < get_or h.previous p 0
     previous_at q p y x (inl a) (inl b) l e =
         let w = slice_get_within rows p x b in
-        let k = ap (λ xs. get_or xs p 0) links ∙ get_or-set_other f.previous.items r p (get_or f.last.items (row_hash row) 0) 0 (λ s. absurd (omega (arith, s, w, n))) in
+        let k = ap (λ xs. get_or xs p 0) links ∙ get_or-set_other f.previous r p (get_or f.last (row_hash row) 0) 0 (λ s. absurd (omega (arith, s, w, n))) in
         let o = old.previous q p y x a b l e in
         omega (arith, k, o)
     previous_at q p y x (inl a) (inr b) l e =
         let at : p ≡ r = b.0 ∙ n in
-        let k = ap (λ xs. get_or xs r 0) links ∙ get_or-set_same f.previous.items r (get_or f.last.items (row_hash row) 0) 0 (let d = place.previous in omega (arith, d)) in
+        let k = ap (λ xs. get_or xs r 0) links ∙ get_or-set_same f.previous r (get_or f.last (row_hash row) 0) 0 (let d = place.previous in omega (arith, d)) in
         let o = old.last q y a in
-        let s = ap (λ i. get_or f.last.items i 0) (e ∙ ap row_hash (sym b.1)) in
-        let t = ap (λ i. get_or h.previous.items i 0) at in
+        let s = ap (λ i. get_or f.last i 0) (e ∙ ap row_hash (sym b.1)) in
+        let t = ap (λ i. get_or h.previous i 0) at in
         omega (arith, k, o, s, t)
     previous_at q p y x (inr a) (inl b) l e = absurd (let w = slice_get_within rows p x b in let d = a.0 in omega (arith, w, d, l))
     previous_at q p y x (inr a) (inr b) l e = absurd (let c = b.0 in let d = a.0 in omega (arith, c, d, l))
@@ -145,16 +132,16 @@ was rows r before after g same q x h = by (r == q) refl (sym (slice_get-set rows
 pub findable_set : (rows : List Row) (r : ℕ) (before after : Row) (f g : Finder) → Findable rows f → slice_get rows r ≡ Some before → fixed_of after ≡ fixed_of before → IsMarked r after f g → Findable (slice_set rows r after) g
 findable_set rows r before after f g h there same m = record {
   room = λ l. let n = length-set rows r after in let p = h.room (omega (arith, n, l)) in record {
-    last = let a = ap (λ v. length v.items) m.last in let b = p.last in omega (arith, a, b);
-    previous = let a = ap (λ v. length v.items) m.previous in let b = p.previous in omega (arith, a, b, n);
+    last = let a = ap length m.last in let b = p.last in omega (arith, a, b);
+    previous = let a = ap length m.previous in let b = p.previous in omega (arith, a, b, n);
     holding = let a = m.room in let b = p.holding in omega (arith, a, b);
   };
-  last = λ q x k. let w = was rows r before after there same q x k in let o = h.last q w.row w.there in let e = ap (λ v. get_or v.items (row_hash x) 0) m.last in let s = ap (λ i. get_or f.last.items i 0) w.hash in omega (arith, o, e, s);
+  last = λ q x k. let w = was rows r before after there same q x k in let o = h.last q w.row w.there in let e = ap (λ xs. get_or xs (row_hash x) 0) m.last in let s = ap (λ i. get_or f.last i 0) w.hash in omega (arith, o, e, s);
   previous = λ q p y x a b l e.
       let v = was rows r before after there same q y a in
       let w = was rows r before after there same p x b in
       let o = h.previous q p v.row w.row v.there w.there l (v.hash ∙ e ∙ sym w.hash) in
-      let k = ap (λ v. get_or v.items p 0) m.previous in
+      let k = ap (λ xs. get_or xs p 0) m.previous in
       omega (arith, o, k);
   holding = λ q fd x k e. by q fd x (r == q) refl (sym (slice_get-set rows r q after (slice_get_within rows r before there)) ∙ k) e;
 }
@@ -172,11 +159,11 @@ taken rows r q x h = elim (cases_lt q r) [
 ]
 
 pub findable_pop : (rows : List Row) (r : ℕ) (row : Row) (f g : Finder) → r + 1 ≤ length rows → slice_get rows r ≡ Some row → Findable (take (r + 1) rows) f
-    → g.last.items ≡ set f.last.items (row_hash row) (get_or f.previous.items r 0) → g.previous ≡ f.previous → g.holding ≡ f.holding → Findable (take r rows) g
+    → g.last ≡ set f.last (row_hash row) (get_or f.previous r 0) → g.previous ≡ f.previous → g.holding ≡ f.holding → Findable (take r rows) g
 findable_pop rows r row f g n there h last previous holding = record {
   room = λ l. record {
-    last = let a = ap length last ∙ length-set f.last.items (row_hash row) (get_or f.previous.items r 0) in let b = place.last in omega (arith, a, b);
-    previous = let a = ap (λ v. length v.items) previous in let b = place.previous in let c = length-take r rows in let d = length-take (r + 1) rows in omega (arith, a, b, c, d, n);
+    last = let a = ap length last ∙ length-set f.last (row_hash row) (get_or f.previous r 0) in let b = place.last in omega (arith, a, b);
+    previous = let a = ap length previous in let b = place.previous in let c = length-take r rows in let d = length-take (r + 1) rows in omega (arith, a, b, c, d, n);
     holding = let a = ap length holding in let b = place.holding in omega (arith, a, b);
   };
   last = λ q x k. let t = taken rows r q x k in last_at q x t.0 t.1;
@@ -184,7 +171,7 @@ findable_pop rows r row f g n there h last previous holding = record {
       let s = taken rows r q y a in
       let t = taken rows r p x b in
       let o = h.previous q p y x s.1 t.1 l e in
-      let k = ap (λ v. get_or v.items p 0) previous in
+      let k = ap (λ xs. get_or xs p 0) previous in
       omega (arith, o, k);
   holding = λ q fd x k e. let t = taken rows r q x k in ap (λ (w : List ℕ). has w (mark_of fd q)) holding ∙ h.holding q fd x t.1 e;
 }
@@ -195,14 +182,14 @@ findable_pop rows r row f g n there h last previous holding = record {
     here : slice_get (take (r + 1) rows) r ≡ Some row
     here = slice_get-take_below rows (r + 1) r (omega arith) ∙ there
 
-    last_at : (q : ℕ) (x : Row) → q < r → slice_get (take (r + 1) rows) q ≡ Some x → q < get_or g.last.items (row_hash x) 0
+    last_at : (q : ℕ) (x : Row) → q < r → slice_get (take (r + 1) rows) q ≡ Some x → q < get_or g.last (row_hash x) 0
     last_at q x l k = elim (cases_eq (row_hash x) (row_hash row)) [
       | inl same ↦
-          let e = ap (λ i. get_or g.last.items i 0) same ∙ ap (λ xs. get_or xs (row_hash row) 0) last ∙ get_or-set_same f.last.items (row_hash row) (get_or f.previous.items r 0) 0 (let p = place.last in omega (arith, p)) in
+          let e = ap (λ i. get_or g.last i 0) same ∙ ap (λ xs. get_or xs (row_hash row) 0) last ∙ get_or-set_same f.last (row_hash row) (get_or f.previous r 0) 0 (let p = place.last in omega (arith, p)) in
           let o = h.previous q r x row k here l same in
           omega (arith, e, o)
       | inr other ↦
-          let e = ap (λ xs. get_or xs (row_hash x) 0) last ∙ get_or-set_other f.last.items (row_hash row) (row_hash x) (get_or f.previous.items r 0) 0 other in
+          let e = ap (λ xs. get_or xs (row_hash x) 0) last ∙ get_or-set_other f.last (row_hash row) (row_hash x) (get_or f.previous r 0) 0 other in
           let o = h.last q x k in
           omega (arith, e, o)
     ]
@@ -214,10 +201,10 @@ other_user : (row : Row) (user_data : ℕ) → row_hash row ≢ hash_of user_dat
 other_user row user_data h = ne_eqb row.entry.user_data user_data (λ e. h (ap hash_of e))
 
 -- No request from the end of its hash's on has a user_data.
-pub no_user : (rows : List Row) (f : Finder) (user_data low high : ℕ) → Findable rows f → ((r : ℕ) → low ≤ r → r < high → get_or f.last.items (hash_of user_data) 0 ≤ r) → NoUser user_data rows low high
-no_user rows f user_data low high h past r row l k there = other_user row user_data (λ same. absurd (let o = h.last r row there in let s = ap (λ i. get_or f.last.items i 0) same in let e = past r l k in omega (arith, o, s, e)))
+pub no_user : (rows : List Row) (f : Finder) (user_data low high : ℕ) → Findable rows f → ((r : ℕ) → low ≤ r → r < high → get_or f.last (hash_of user_data) 0 ≤ r) → NoUser user_data rows low high
+no_user rows f user_data low high h past r row l k there = other_user row user_data (λ same. absurd (let o = h.last r row there in let s = ap (λ i. get_or f.last i 0) same in let e = past r l k in omega (arith, o, s, e)))
 
-pub no_user_before : (rows : List Row) (f : Finder) (user_data r low : ℕ) (row : Row) → Findable rows f → slice_get rows r ≡ Some row → row_hash row ≡ hash_of user_data → ((q : ℕ) → low ≤ q → q < r → get_or f.previous.items r 0 ≤ q) → NoUser user_data rows low r
+pub no_user_before : (rows : List Row) (f : Finder) (user_data r low : ℕ) (row : Row) → Findable rows f → slice_get rows r ≡ Some row → row_hash row ≡ hash_of user_data → ((q : ℕ) → low ≤ q → q < r → get_or f.previous r 0 ≤ q) → NoUser user_data rows low r
 no_user_before rows f user_data r low row h here hash past q other l k there = other_user other user_data (λ same. absurd (let o = h.previous q r other row there here k (same ∙ sym hash) in let e = past q l k in omega (arith, o, e)))
 
 -- ---- Several requests are dropped
@@ -230,7 +217,7 @@ place_left rows k f some within h =
     record { last = p.last; previous = let l = p.previous in omega (arith, l, n, some, within); holding = p.holding }
 
 pub findable_pops : (rows : List Row) (k : ℕ) (row : Row) (f g : Finder) → 0 < k → k ≤ length rows → slice_get rows (k - 1) ≡ Some row → Findable (take k rows) f
-    → g.last.items ≡ set f.last.items (row_hash row) (get_or f.previous.items (k - 1) 0) → g.previous ≡ f.previous → g.holding ≡ f.holding → Findable (take (k - 1) rows) g
+    → g.last ≡ set f.last (row_hash row) (get_or f.previous (k - 1) 0) → g.previous ≡ f.previous → g.holding ≡ f.holding → Findable (take (k - 1) rows) g
 findable_pops rows k row f g some within there h last previous holding =
     let P : ℕ → Type 0 = λ n. Findable (take n rows) f in
     findable_pop rows (k - 1) row f g (omega (arith, some, within)) there (subst P (let e : k ≡ k - 1 + 1 = omega (arith, some) in e) h) last previous holding

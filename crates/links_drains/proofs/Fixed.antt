@@ -1,10 +1,11 @@
 -- The fields of a request that never change.
 use Rattle.std.proofs.Common.{◌≡◌, ℕ, refl, sym, ap, List, map, length, ◌<◌}
-use Rattle.std.specs.Prelude.{Option, Some, None, option_map, slice_get, slice_set}
+use Rattle.std.specs.Prelude.{Option, Some, None, option_map, slice_get, slice_set, nat_lt, ◌==◌, ◌&&◌}
 use Rattle.std.proofs.lemmas.Option.{slice_get_within}
 use Rattle.entries.specs.declared.entry.Sqe.{Sqe}
 use Rattle.entries.specs.declared.row.Row.{Row}
 use Rattle.places.proofs.ListLemmas.{map_same}
+use Rattle.links_drains.specs.Counts.{has_count}
 use Rattle.links_drains.specs.Rows.{fixed_of}
 
 -- Row i exists and may be replaced by the row.
@@ -25,6 +26,9 @@ fixed_within rows i row h = let f = fixed_at rows i row h in slice_get_within ro
 
 pub same_unit : (row before : Row) → fixed_of row ≡ fixed_of before → row.unit ≡ before.unit
 same_unit row before h = ap (λ (p : Sqe × ℕ). p.1) h
+
+pub same_count : (row before : Row) → fixed_of row ≡ fixed_of before → has_count row ≡ has_count before
+same_count row before h = ap (λ (p : Sqe × ℕ). (p.0.opcode == 11) && nat_lt 0 p.0.off) h
 
 pub fixed_here : (rows : List Row) (i : ℕ) (before : Row) → slice_get rows i ≡ Some before → option_map fixed_of (slice_get rows i) ≡ Some (fixed_of before)
 fixed_here rows i before h = ap (option_map fixed_of) h

@@ -1,17 +1,18 @@
 -- The index remains correct when the table changes.
-use Rattle.std.proofs.Common.{◌≡◌, ◌≢◌, ℕ, zero, suc, Bool, true, false, cond, refl, sym, ◌∙◌, ap, subst, List, [], ◌∷◌, ◌++◌, length, take, ◌+◌, ◌-◌, ◌<◌, ◌≤◌, ◌⊎◌, inl, inr, arith}
+use Rattle.std.proofs.Common.{◌≡◌, ◌≢◌, ℕ, zero, suc, Bool, true, false, cond, refl, sym, ◌∙◌, ap, subst, List, [], ◌∷◌, ◌++◌, length, take, min, ◌+◌, ◌-◌, ◌<◌, ◌≤◌, ◌⊎◌, inl, inr, arith}
 use Rattle.std.specs.Prelude.{Some, slice_get, slice_set, ◌==◌, ◌&&◌}
 use Rattle.std.specs.Option.{option_map_or}
 use Rattle.std.proofs.lemmas.Bool.{cases_eq, cases_lt, eq-eqb, eqb-true, ne_eqb, and_left}
 use Rattle.std.proofs.lemmas.List.{get_or_past, length-set, length-take}
 use Rattle.std.proofs.lemmas.Option.{slice_get_within, slice_get_past}
 use Rattle.entries.specs.declared.row.Row.{Row}
-use Rattle.places.proofs.ListLemmas.{slice_get-set, slice_get-push, slice_get-take_below, slice_get-take_above, updated_set}
-use Rattle.links_drains.specs.Counts.{threshold_in, threshold_of}
+use Rattle.places.proofs.ListLemmas.{slice_get-set, slice_get-set_same, slice_get-push, slice_get-take_below, slice_get-take_above, updated_set}
+use Rattle.links_drains.specs.Counts.{has_count, threshold_in, threshold_of}
 use Rattle.links_drains.specs.Links.{has_drain_flag, Chained, ChainContinues}
-use Rattle.links_drains.specs.Indexes.{HasRoom, Indexed, IndexedBut, Cleared, Unreached, Forgotten}
+use Rattle.links_drains.specs.Indexes.{HasRoom, HasThresholds, Indexed, IndexedBut, Cleared, Unreached, Forgotten}
 use Rattle.bit_sets.specs.Sets.{has}
 use Rattle.bit_sets.specs.Thresholds.{never, threshold_at}
+use Rattle.links_drains.specs.Phases.{is_issued}
 use Rattle.links_drains.specs.Units.{passes_at, is_issued_row, is_open, is_barrier}
 use Rattle.links_drains.specs.declared.index.Index.{Index}
 use Rattle.links_drains.proofs.Chains.{chained-none, chained-take, chained-updated}
@@ -73,6 +74,18 @@ tied test rows r x row b old new e h t others written q = elim (cases_eq q r) [
   | inr other ↦ written q ∙ ap (λ d. cond d b (has old q)) (ne_eqb q r other) ∙ others q other
 ]
 
+-- There is room for a threshold, unless it is `never`.
+pub counted_room : (rows : List Row) (index : Index) (r : ℕ) (x row : Row) (n : ℕ) → HasThresholds rows index → x ≡ row → slice_get rows r ≡ Some row → n ≡ threshold_of x → (n ≡ never) ⊎ (r < length index.thresholds)
+counted_room rows index r x row n h is there e = by (has_count row) refl
+  where
+    none : (a : Bool) (m : ℕ) → cond (a && false) m never ≡ never
+    none true m = refl
+    none false m = refl
+
+    by : (b : Bool) → has_count row ≡ b → (n ≡ never) ⊎ (r < length index.thresholds)
+    by true c = inr (h r row there c)
+    by false c = inl (e ∙ ap threshold_of is ∙ ap (λ b. cond (is_issued row.phase && b) (min (row.base + row.entry.off) never) never) c ∙ none (is_issued row.phase) (min (row.base + row.entry.off) never))
+
 pub tied_thresholds : (rows : List Row) (r : ℕ) (x row : Row) (n : ℕ) (old new : List ℕ) → x ≡ row → slice_get rows r ≡ Some row → n ≡ threshold_of x
     → ((q : ℕ) → q ≢ r → threshold_at old q ≡ threshold_in rows q) → ((q : ℕ) → threshold_at new q ≡ cond (q == r) n (threshold_at old q)) → (q : ℕ) → threshold_at new q ≡ threshold_in rows q
 tied_thresholds rows r x row n old new e h t others written q = elim (cases_eq q r) [
@@ -95,8 +108,9 @@ pub updated_index : (rows : List Row) (r : ℕ) (x row : Row) (b : Bool) (old ne
     → ((q : ℕ) → threshold_at new.thresholds q ≡ threshold_in rows q) → Indexed rows new
 updated_index rows r x row blocks old new e t i la lb lc ld le a b c d f = record {
   chained = i.chained;
-  room = let x = i.room.unfinished in let y = i.room.flagged in let z = i.room.barriers in let s = i.room.issued in let u = i.room.thresholds in
-      record { unfinished = omega (arith, la, x); flagged = omega (arith, lb, y); barriers = omega (arith, lc, z); issued = omega (arith, ld, s); thresholds = omega (arith, le, u) };
+  room = let x = i.room.unfinished in let y = i.room.flagged in let z = i.room.barriers in let s = i.room.issued in
+      record { unfinished = omega (arith, la, x); flagged = omega (arith, lb, y); barriers = omega (arith, lc, z); issued = omega (arith, ld, s) };
+  counted = λ q y g e. let n = i.counted q y g e in omega (arith, le, n);
   unfinished = a;
   flagged = b;
   barriers = tied_barriers rows x.unit blocks old.barriers new.barriers t (λ u other. i.barriers u (λ same. other (same ∙ sym (ap (λ (y : Row). y.unit) e)))) c;
@@ -113,10 +127,18 @@ get_other : (rows : List Row) (r q : ℕ) (row : Row) → r < length rows → q 
 get_other rows r q row h other = slice_get-set rows r q row h ∙ ap (λ b. cond b (Some row) (slice_get rows q)) (ne_eqb r q (λ e. other (sym e)))
 
 -- A row is replaced by one of the same chain.
-pub indexed_set : (rows : List Row) (index : Index) (r : ℕ) (before row : Row) → Indexed rows index → slice_get rows r ≡ Some before → row.unit ≡ before.unit → IndexedBut r row.unit (slice_set rows r row) index
-indexed_set rows index r before row i h same = record {
+pub indexed_set : (rows : List Row) (index : Index) (r : ℕ) (before row : Row) → Indexed rows index → slice_get rows r ≡ Some before → row.unit ≡ before.unit → has_count row ≡ has_count before → IndexedBut r row.unit (slice_set rows r row) index
+indexed_set rows index r before row i h same counts = record {
   chained = chained_set rows r before row i.chained h same;
   room = subst (λ n. HasRoom n index) (sym (length-set rows r row)) i.room;
+  counted = λ q x g e. elim (cases_eq q r) [
+    | inl at ↦
+        let written : Some row ≡ Some x = sym (slice_get-set_same rows r row (slice_get_within rows r before h)) ∙ ap (slice_get (slice_set rows r row)) (sym at) ∙ g in
+        let is : row ≡ x = cc in
+        let n = i.counted r before h (sym counts ∙ ap has_count is ∙ e) in
+        omega (arith, at, n)
+    | inr other ↦ i.counted q x (sym (get_other rows r q row (slice_get_within rows r before h) other) ∙ g) e
+  ];
   unfinished = λ q other. i.unfinished q ∙ ap (λ o. option_map_or is_open o false) (sym (get_other rows r q row (slice_get_within rows r before h) other));
   flagged = λ q other. i.flagged q ∙ ap (λ o. option_map_or has_drain_flag o false) (sym (get_other rows r q row (slice_get_within rows r before h) other));
   barriers = λ u other. i.barriers u ∙ both _ _ _ _ (sym (any_of_set has_drain_flag rows r u before row h same other)) (sym (any_of_set is_open rows r u before row h same other));
@@ -128,16 +150,21 @@ indexed_set rows index r before row i h same = record {
 get_before : (rows : List Row) (row : Row) (q : ℕ) → q ≢ length rows → slice_get (rows ++ row ∷ []) q ≡ slice_get rows q
 get_before rows row q other = slice_get-push rows q row ∙ ap (λ b. cond b (Some row) (slice_get rows q)) (ne_eqb (length rows) q (λ e. other (sym e)))
 
-pub indexed_push : (rows : List Row) (index : Index) (row : Row) → Indexed rows index → HasRoom (length rows + 1) index → ChainContinues rows row → IndexedBut (length rows) row.unit (rows ++ row ∷ []) index
-indexed_push rows index row i room on = record {
+pub indexed_push : (rows : List Row) (index : Index) (row : Row) → Indexed rows index → HasRoom (length rows + 1) index → (has_count row ≡ true → length rows < length index.thresholds) → ChainContinues rows row → IndexedBut (length rows) row.unit (rows ++ row ∷ []) index
+indexed_push rows index row i room counts on = record {
   chained = chained_push rows row i.chained on;
   room = subst (λ n. HasRoom n index) (sym (length-push rows row)) room;
+  counted = λ q x g e. counted_at q x e (pushed rows row q x g);
   unfinished = λ q other. i.unfinished q ∙ ap (λ o. option_map_or is_open o false) (sym (get_before rows row q other));
   flagged = λ q other. i.flagged q ∙ ap (λ o. option_map_or has_drain_flag o false) (sym (get_before rows row q other));
   barriers = λ u other. i.barriers u ∙ both _ _ _ _ (sym (any_of_push has_drain_flag rows u row other)) (sym (any_of_push is_open rows u row other));
   issued = λ q other. i.issued q ∙ ap (λ o. option_map_or is_issued_row o false) (sym (get_before rows row q other));
   thresholds = λ q other. i.thresholds q ∙ ap (λ o. option_map_or threshold_of o never) (sym (get_before rows row q other));
 }
+  where
+    counted_at : (q : ℕ) (x : Row) → has_count x ≡ true → (slice_get rows q ≡ Some x) ⊎ ((q ≡ length rows) × (row ≡ x)) → q < length index.thresholds
+    counted_at q x e (inl k) = i.counted q x k e
+    counted_at q x e (inr k) = let n = counts (ap has_count k.1 ∙ e) in let at = k.0 in omega (arith, at, n)
 
 -- Rows are dropped from the end.
 
@@ -192,7 +219,8 @@ barrier_dropped rows n u old new chained h c others = elim (cases_lt u n) [
 pub indexed_none : (rows : List Row) (old new : Index) → Indexed rows old → Forgotten 0 (length rows) old new → Indexed [] new
 indexed_none rows old new i f = record {
   chained = chained-none;
-  room = record { unfinished = omega arith; flagged = omega arith; barriers = omega arith; issued = omega arith; thresholds = omega arith };
+  room = record { unfinished = omega arith; flagged = omega arith; barriers = omega arith; issued = omega arith };
+  counted = λ q x g e. absurd cc;
   unfinished = tie_dropped is_open rows 0 old.unfinished new.unfinished i.unfinished f.unfinished;
   flagged = tie_dropped has_drain_flag rows 0 old.flagged new.flagged i.flagged f.flagged;
   barriers = λ u. barrier_dropped rows 0 u old.barriers new.barriers i.chained i.barriers f.barriers (λ less. absurd (omega (arith, less)));
@@ -212,8 +240,9 @@ last_kept rows n some h = let w = element rows (n - 1) (omega (arith, some, h)) 
 pub indexed_take : (rows : List Row) (old new : Index) (n : ℕ) (last : Row) → Indexed rows old → 0 < n → slice_get rows (n - 1) ≡ Some last → Forgotten n (length rows) old new → IndexedBut (n - 1) last.unit (take n rows) new
 indexed_take rows old new n last i some h f = record {
   chained = chained-take rows n i.chained;
-  room = let t = length-take n rows in let a = i.room.unfinished in let b = i.room.flagged in let d = i.room.barriers in let e = i.room.issued in let g = i.room.thresholds in let x = f.unfinished.len in let y = f.flagged.len in let z = f.barriers.len in let w = f.issued.len in let u = f.thresholds.len in
-      record { unfinished = omega (arith, t, a, x); flagged = omega (arith, t, b, y); barriers = omega (arith, t, d, z); issued = omega (arith, t, e, w); thresholds = omega (arith, t, g, u) };
+  room = let t = length-take n rows in let a = i.room.unfinished in let b = i.room.flagged in let d = i.room.barriers in let e = i.room.issued in let x = f.unfinished.len in let y = f.flagged.len in let z = f.barriers.len in let w = f.issued.len in
+      record { unfinished = omega (arith, t, a, x); flagged = omega (arith, t, b, y); barriers = omega (arith, t, d, z); issued = omega (arith, t, e, w) };
+  counted = λ q x g c. let k = kept_row rows n q x g in let l = i.counted q x k.1 c in let u = f.thresholds.len in omega (arith, l, u);
   unfinished = λ q other. tie_dropped is_open rows n old.unfinished new.unfinished i.unfinished f.unfinished q;
   flagged = λ q other. tie_dropped has_drain_flag rows n old.flagged new.flagged i.flagged f.flagged q;
   barriers = λ u other. barrier_dropped rows n u old.barriers new.barriers i.chained i.barriers f.barriers
@@ -226,10 +255,23 @@ indexed_take rows old new n last i some h f = record {
 pub indexed_empty : (index : Index) → index.unfinished ≡ [] → index.flagged ≡ [] → index.barriers ≡ [] → index.issued ≡ [] → index.thresholds ≡ [] → Indexed [] index
 indexed_empty index a b c d e = record {
   chained = chained-none;
-  room = record { unfinished = omega arith; flagged = omega arith; barriers = omega arith; issued = omega arith; thresholds = omega arith };
+  room = record { unfinished = omega arith; flagged = omega arith; barriers = omega arith; issued = omega arith };
+  counted = λ q x g e. absurd cc;
   unfinished = λ r. ap (λ w. has w r) a ∙ has_past [] r (omega arith);
   flagged = λ r. ap (λ w. has w r) b ∙ has_past [] r (omega arith);
   barriers = λ u. ap (λ w. has w u) c ∙ has_past [] u (omega arith);
   issued = λ r. ap (λ w. has w r) d ∙ has_past [] r (omega arith);
   thresholds = λ r. ap (λ w. threshold_at w r) e ∙ get_or_past [] r never (omega arith);
 }
+
+-- The rows after some were dropped from the end.
+pub indexed_left : (rows left : List Row) (old new : Index) (n k : ℕ) → Indexed rows old → length rows ≡ n → left ≡ take k rows → k ≤ n → 0 < k → Forgotten k n old new
+    → (row : Row) × (slice_get left (k - 1) ≡ Some row) × IndexedBut (k - 1) row.unit left new
+indexed_left rows left old new n k i len is within some f =
+    let last = last_kept rows k some (omega (arith, len, within)) in
+    let g : Forgotten k (length rows) old new = rw len f in
+    rw is (last.0, last.2, indexed_take rows old new k last.0 i some last.1 g)
+
+pub indexed_none_left : (rows left : List Row) (old new : Index) (n : ℕ) → Indexed rows old → length rows ≡ n → length left ≡ 0 → Forgotten 0 n old new → Indexed left new
+indexed_none_left rows [] old new n i len none f = indexed_none rows old new i (rw len f)
+indexed_none_left rows (x ∷ left) old new n i len none f = absurd (omega (arith, none))

@@ -2,10 +2,9 @@
 use Rattle.std.proofs.Common.{◌≡◌, ℕ, zero, suc, Bool, true, false, cond, refl, sym, ◌∙◌, ap, List, [], ◌∷◌, ◌++◌, length, take, drop, get_or, ◌+◌, ◌-◌, ◌^◌, ◌<◌, ◌≤◌, arith}
 use Rattle.std.specs.Prelude.{Some, slice_get, slice_set, nat_lt, ◌||◌}
 use Rattle.std.specs.List.{filter, list_any}
-use Rattle.std.proofs.lemmas.List.{take-append-drop}
+use Rattle.std.proofs.lemmas.List.{take-append-drop, take_all}
 use Rattle.std.proofs.lemmas.List.Filters.{length-filter_more}
 use Rattle.std.proofs.lemmas.Bool.Decides.{nat_tests}
-use Rattle.std.proofs.lemmas.Grind.{common_steps}
 use Rattle.entries.specs.declared.row.Row.{Row}
 use Rattle.model_files.specs.declared.held.Held.{Held}
 use Rattle.model_files.specs.Holders.{holders, is_held}
@@ -29,14 +28,31 @@ written rows r before row fd h = ap (λ rs. holders_of rs fd + cond (holds fd be
 -- ---- Rows are removed from the counts one after the other
 
 -- The next row to be removed is counted.
-pub next_counted : (rows : List Row) (i : ℕ) (d : Row) (fd before now : ℕ) → i < length rows → holders_of rows fd ≤ before → before ≡ now + holders_of (take i rows) fd → holds fd (get_or rows i d) ≡ true → 0 < now
-next_counted rows i d fd before now h most e t =
+pub next_counted : (rows : List Row) (n i : ℕ) (row : Row) (fd before now : ℕ) → i < length rows → row ≡ get_or rows i row → holders_of (drop n rows) fd ≤ before
+    → before + holders_of (take n rows) fd ≡ now + holders_of (take i rows) fd → holds fd row ≡ true → 0 < now
+next_counted rows n i row fd before now h is most e t =
     let a = cut rows (i + 1) fd in
-    let b = rw t at (one_more rows i d fd h) in
-    omega (arith, a, b, most, e)
+    let all = cut rows n fd in
+    let b = one_more rows i row fd h in
+    let by_row : Row → ℕ = λ x. cond (holds fd x) 1 0 in
+    let by_test : Bool → ℕ = λ y. cond y 1 0 in
+    let c = ap by_row (sym is) ∙ ap by_test t in
+    omega (arith, a, all, b, c, most, e)
 
-pub next_gone : (rows : List Row) (i : ℕ) (d : Row) (fd before now later : ℕ) → i < length rows → before ≡ now + holders_of (take i rows) fd → now ≡ later + cond (holds fd (get_or rows i d)) 1 0 → before ≡ later + holders_of (take (i + 1) rows) fd
-next_gone rows i d fd before now later h e g = omega (arith, one_more rows i d fd h, e, g)
+pub next_gone : (rows : List Row) (n i : ℕ) (row : Row) (fd before now later : ℕ) → i < length rows → row ≡ get_or rows i row → before + holders_of (take n rows) fd ≡ now + holders_of (take i rows) fd
+    → now ≡ later + cond (holds fd row) 1 0 → before + holders_of (take n rows) fd ≡ later + holders_of (take (i + 1) rows) fd
+next_gone rows n i row fd before now later h is e g =
+    let b = one_more rows i row fd h in
+    let by_row : Row → ℕ = λ x. cond (holds fd x) 1 0 in
+    let c = ap by_row is in
+    omega (arith, b, c, e, g)
+
+-- All rows from a number on were removed.
+pub all_gone : (rows : List Row) (n i fd before now : ℕ) → length rows ≤ i → before + holders_of (take n rows) fd ≡ now + holders_of (take i rows) fd → before ≡ now + holders_of (drop n rows) fd
+all_gone rows n i fd before now h e =
+    let a = cut rows n fd in
+    let b = ap (λ xs. holders_of xs fd) (take_all i rows h) in
+    omega (arith, a, b, e)
 
 -- ---- The counts of a table
 
@@ -92,9 +108,6 @@ tallied_push rows held after row t h on = record {
 }
 
 -- Rows were dropped from the end.
-pub rest : (rows : List Row) (n : ℕ) → take (length rows - n) (drop n rows) ≡ drop n rows
-rest rows n = grind (arith, common_steps)
-
 pub counts_dropped : (rows : List Row) (held : Held) (n : ℕ) → Tallied rows held → (fd : ℕ) → holders_of (drop n rows) fd ≤ holders held fd
 counts_dropped rows held n t fd = let a = t.counts fd in omega (arith, a, cut rows n fd)
 

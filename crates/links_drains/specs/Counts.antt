@@ -5,9 +5,13 @@ use Rattle.entries.specs.declared.row.Row.{Row}
 use Rattle.bit_sets.specs.Thresholds.{never}
 use Rattle.links_drains.specs.Phases.{is_issued}
 
--- An issued TIMEOUT that waits for a number of completions, given in its `off` field.
+-- A TIMEOUT with a number of completions to wait for, in its `off` field.
+abbrev pub has_count : Row → Bool
+has_count row = (row.entry.opcode == 11) && nat_lt 0 row.entry.off
+
+-- An issued TIMEOUT that waits for a number of completions.
 abbrev pub is_count_timeout : Row → Bool
-is_count_timeout row = is_issued row.phase && ((row.entry.opcode == 11) && nat_lt 0 row.entry.off)
+is_count_timeout row = is_issued row.phase && has_count row
 
 -- Whether `total` has reached the count that the TIMEOUT waits for.
 abbrev pub is_met : ℕ → Row → Bool

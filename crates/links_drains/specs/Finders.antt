@@ -38,8 +38,8 @@ mark_of fd r = (fd - 3) * 1024 + r / 64
 
 -- There is room for n requests.
 pub record HasPlace (n : ℕ) (finder : Finder) : Type 0 where
-  pub last : 8191 ≤ length finder.last.items
-  pub previous : n ≤ length finder.previous.items
+  pub last : 8191 ≤ length finder.last
+  pub previous : n ≤ length finder.previous
   pub holding : 65536 ≤ 64 * length finder.holding
 
 -- Each request is below the end of its hash's requests, and of those before each later one. The
@@ -47,10 +47,10 @@ pub record HasPlace (n : ℕ) (finder : Finder) : Type 0 where
 pub record Findable (rows : List Row) (finder : Finder) : Type 0 where
   pub room : 0 < length rows → HasPlace (length rows) finder
   pub last : (r : ℕ) (row : Row) → slice_get rows r ≡ Some row
-      → r < get_or finder.last.items (row_hash row) 0
+      → r < get_or finder.last (row_hash row) 0
   pub previous : (q r : ℕ) (other row : Row) → slice_get rows q ≡ Some other
       → slice_get rows r ≡ Some row → q < r → row_hash other ≡ row_hash row
-      → q < get_or finder.previous.items r 0
+      → q < get_or finder.previous r 0
   pub holding : (r fd : ℕ) (row : Row) → slice_get rows r ≡ Some row → holds fd row ≡ true
       → has finder.holding (mark_of fd r) ≡ true
 

@@ -1,25 +1,31 @@
 -- The invariant of the index of a request table. Public contracts don't use it.
-use Rattle.std.specs.Prelude.{◌≡◌, ◌≢◌, ℕ, ◌*◌, ◌≤◌, ◌<◌, false, List, length}
+use Rattle.std.specs.Prelude.{◌≡◌, ◌≢◌, ℕ, ◌*◌, ◌≤◌, ◌<◌, true, false, Some, List, length, slice_get}
 use Rattle.entries.specs.declared.row.Row.{Row}
-use Rattle.links_drains.specs.Counts.{threshold_in}
+use Rattle.links_drains.specs.Counts.{has_count, threshold_in}
 use Rattle.links_drains.specs.Links.{has_drain_flag, Chained}
 use Rattle.bit_sets.specs.Sets.{has}
 use Rattle.bit_sets.specs.Thresholds.{never, threshold_at}
 use Rattle.links_drains.specs.Units.{passes_at, is_issued_row, is_open, is_barrier}
 use Rattle.links_drains.specs.declared.index.Index.{Index}
 
--- The sets and thresholds have room for n requests.
+-- The sets have room for n requests.
 pub record HasRoom (n : ℕ) (index : Index) : Type 0 where
   pub unfinished : n ≤ 64 * length index.unfinished
   pub flagged : n ≤ 64 * length index.flagged
   pub barriers : n ≤ 64 * length index.barriers
   pub issued : n ≤ 64 * length index.issued
-  pub thresholds : n ≤ length index.thresholds
+
+-- There is room for the threshold of each TIMEOUT with a count.
+abbrev pub HasThresholds : List Row → Index → Type 0
+HasThresholds rows index =
+    (r : ℕ) (row : Row) → slice_get rows r ≡ Some row → has_count row ≡ true
+    → r < length index.thresholds
 
 -- The index is correct: its sets and thresholds agree with the table.
 pub record Indexed (rows : List Row) (index : Index) : Type 0 where
   pub chained : Chained rows
   pub room : HasRoom (length rows) index
+  pub counted : HasThresholds rows index
   pub unfinished : (r : ℕ) → has index.unfinished r ≡ passes_at is_open rows r
   pub flagged : (r : ℕ) → has index.flagged r ≡ passes_at has_drain_flag rows r
   pub barriers : (unit : ℕ) → has index.barriers unit ≡ is_barrier rows unit
@@ -30,6 +36,7 @@ pub record Indexed (rows : List Row) (index : Index) : Type 0 where
 pub record IndexedBut (r unit : ℕ) (rows : List Row) (index : Index) : Type 0 where
   pub chained : Chained rows
   pub room : HasRoom (length rows) index
+  pub counted : HasThresholds rows index
   pub unfinished : (q : ℕ) → q ≢ r → has index.unfinished q ≡ passes_at is_open rows q
   pub flagged : (q : ℕ) → q ≢ r → has index.flagged q ≡ passes_at has_drain_flag rows q
   pub barriers : (u : ℕ) → u ≢ unit → has index.barriers u ≡ is_barrier rows u

@@ -12,3 +12,4 @@ pub mod Tables
 pub mod Units
 pub mod Queued
 pub mod Numbered
+pub mod Sharing

@@ -1,11 +1,12 @@
 //! Requests that complete as they are submitted, because an entry of their chain is invalid
 //! (io_uring_enter(2)).
-ghost use Rattle.std.specs.Prelude.{◌≡◌, ◌+◌, ◌<◌, ◌≤◌, ℕ, IfOk, Some, length, slice_get};
+ghost use Rattle.std.specs.Prelude.{◌≡◌, ◌+◌, ◌<◌, ◌≤◌, ℕ, IfOk, Some, drop, length, slice_get};
 ghost use Rattle.links_drains.specs.Batches.{previous_in, chain_fails, direct_of, error_at, rows_of, shown_on as shown_by};
 ghost use Rattle.links_drains.specs.Endings.{ecanceled, given, or_else};
 
 use crate::links::is_linked;
-use entries::{ECANCELED, Row, Sqe};
+use crate::table::Rows;
+use entries::{ECANCELED, Sqe};
 use model_files::World;
 use opcodes::{Context, check};
 use std::alloc::{AllocError, Global};
@@ -42,22 +43,23 @@ fn shown_on(entry: &Sqe) -> Option<u8>
 }
 
 /// Returns the requests of a batch that complete as they are submitted, with their results. `first`
-/// is the number of the first. Takes time linear in the size of the batch.
+/// is the number of the first, and `rows` ends with the batch. Takes time linear in the size of the
+/// batch.
 pub(crate) fn direct_ends(
     alloc: Global,
     world: &World,
     entries: &[Sqe],
     first: u32,
-    rows: &[Row],
+    rows: &Rows,
 ) -> Result<Vec<(u32, i32)>, AllocError>
-    requires batch { rows.now ≡ rows_of world.now first entries.now }
+    requires batch { drop first rows.now ≡ rows_of world.now first entries.now }
     requires few { first + length entries.now ≤ 65536 }
     ensures { IfOk result (λ direct. direct.items ≡ direct_of world.now first entries.now) }
 {
     let failing = failing_chains(alloc, world, entries, first, rows)?;
     let mut direct = Vec::new(alloc);
-    for i in 0..rows.len() {
-        let row = &rows[i];
+    for i in 0..entries.len() {
+        let row = &rows[first as usize + i];
         let chain_fails = failing[(row.unit - first) as usize];
         if let Some(res) = result_at_once(error_at(world, entries, i), chain_fails) {
             direct.push((first + i as u32, res))?;
@@ -73,15 +75,16 @@ fn failing_chains(
     world: &World,
     entries: &[Sqe],
     first: u32,
-    rows: &[Row],
+    rows: &Rows,
 ) -> Result<Vec<bool>, AllocError>
-    requires { rows.now ≡ rows_of world.now first entries.now }
-    ensures { IfOk result (λ failing. (u : ℕ) → u < length rows.now
+    requires batch { drop first rows.now ≡ rows_of world.now first entries.now }
+    requires few { first + length entries.now ≤ 65536 }
+    ensures { IfOk result (λ failing. (u : ℕ) → u < length entries.now
         → slice_get failing.items u ≡ Some (chain_fails world.now entries.now u)) }
 {
-    let mut failing = Vec::from_elem(alloc, false, rows.len())?;
-    for i in 0..rows.len() {
-        let row = &rows[i];
+    let mut failing = Vec::from_elem(alloc, false, entries.len())?;
+    for i in 0..entries.len() {
+        let row = &rows[first as usize + i];
         if error_at(world, entries, i).is_some() {
             failing[(row.unit - first) as usize] = true;
         }

@@ -6,9 +6,13 @@ ghost use Rattle.links_drains.specs.Finders.{hash_of as hash_of_user, holds_now,
 ghost use Rattle.links_drains.specs.Numbered.{IsNextWhere, NoneWhere};
 ghost use Rattle.links_drains.specs.Indexes.{Indexed};
 
+pub(crate) mod sharing;
+
 use crate::index::Index;
+use crate::table::Rows;
 use bit_sets::BitSet;
 use entries::{Phase, Row};
+use shared_pages::PagedList;
 use std::alloc::{AllocError, Global};
 
 /// The number of hashes: a prime, so that pointers to aligned structures have different ones.
@@ -20,17 +24,20 @@ const BLOCK: usize = 64;
 /// The number of blocks in a full table.
 const BLOCKS: usize = 1024;
 
-/// Numbers copied at once: 1,920 bytes.
-const PIECE: usize = 480;
+/// The number of links that share a page: 2 KB.
+const LINKS: usize = 512;
+
+/// Links to requests, each one more than a number.
+type Links = PagedList<u32, LINKS>;
 
 /// Chains of the requests whose user_data has the same hash, and marks of the blocks with requests
 /// that hold a descriptor. A mark stays when its request completes.
 #[derive(Drop)]
 pub(crate) struct Finder {
     /// For each hash, one more than the number of its last request, or 0 if it has none.
-    last: Vec<u32>,
+    last: Links,
     /// The same for each request, of the requests before it that have its hash.
-    previous: Vec<u32>,
+    previous: Links,
     /// A mark for each descriptor and block.
     holding: BitSet,
 }
@@ -43,15 +50,16 @@ impl Finder {
         ensures { Findable [] result }
     {
         Finder {
-            last: Vec::new(alloc),
-            previous: Vec::new(alloc),
+            last: PagedList::new(alloc),
+            previous: PagedList::new(alloc),
             holding: BitSet::new(alloc),
         }
     }
 
     /// Makes room for one more request.
-    pub(crate) fn make_room(&mut self, rows: &[Row]) -> Result<(), AllocError>
-        requires { Findable rows.now self.old }
+    pub(crate) fn make_room(&mut self, rows: &Rows) -> Result<(), AllocError>
+        requires findable { Findable rows.now self.old }
+        requires few { length rows.now < 65536 }
         ensures ok { OnOk result (HasPlace (length rows.now + 1) self.new) }
         ensures findable { Findable rows.now self.new }
     {
@@ -64,7 +72,7 @@ impl Finder {
     }
 
     // Makes room for all hashes and marks, if the table is empty.
-    fn make_tables(&mut self, rows: &[Row]) -> Result<(), AllocError>
+    fn make_tables(&mut self, rows: &Rows) -> Result<(), AllocError>
         requires { Findable rows.now self.old }
         ensures ok { OnOk result (HasPlace (length rows.now) self.new) }
         ensures findable { Findable rows.now self.new }
@@ -79,9 +87,9 @@ impl Finder {
 
     // Makes room for all hashes.
     fn make_hashes(&mut self) -> Result<(), AllocError>
-        ensures { OnOk result (8191 ≤ length self.new.last.items) }
+        ensures { OnOk result (8191 ≤ length self.new.last) }
     {
-        self.last.resize(HASHES as usize, 0)
+        self.last.grow(HASHES as usize, 0)
     }
 
     // Makes room for the marks of all descriptors and blocks.
@@ -111,17 +119,17 @@ impl Finder {
     fn link(&mut self, r: usize, row: &Row)
         requires few { r < 65536 }
         requires room { HasPlace (r + 1) self.old }
-        ensures last { self.new.last.items
-            ≡ slice_set self.old.last.items (row_hash row.now) (r + 1) }
-        ensures previous { self.new.previous.items
-            ≡ slice_set self.old.previous.items r
-            (get_or self.old.last.items (row_hash row.now) 0) }
+        ensures last { self.new.last
+            ≡ slice_set self.old.last (row_hash row.now) (r + 1) }
+        ensures previous { self.new.previous
+            ≡ slice_set self.old.previous r
+            (get_or self.old.last (row_hash row.now) 0) }
         ensures holding { self.new.holding ≡ self.old.holding }
         ensures room { HasPlace (r + 1) self.new }
     {
         let hash = hash_of(row.entry.user_data);
-        self.previous[r] = self.last[hash];
-        self.last[hash] = r as u32 + 1;
+        self.previous.set(r, self.last[hash]);
+        self.last.set(hash, r as u32 + 1);
     }
 
     /// Marks the block of request r, which is new or has changed, if it holds a descriptor.
@@ -138,7 +146,7 @@ impl Finder {
     }
 
     /// Drops the requests from number n on, in time linear in how many they are.
-    pub(crate) fn cut(&mut self, rows: &[Row], n: usize)
+    pub(crate) fn cut(&mut self, rows: &Rows, n: usize)
         requires findable { Findable rows.now self.old }
         requires within { n ≤ length rows.now }
         ensures { Findable (take n rows.now) self.new }
@@ -153,17 +161,18 @@ impl Finder {
     // Drops request r, the last one, from those with its hash.
     fn unlink(&mut self, r: usize, row: &Row)
         requires { HasPlace (r + 1) self.old }
-        ensures last { self.new.last.items
-            ≡ slice_set self.old.last.items (row_hash row.now)
-            (get_or self.old.previous.items r 0) }
+        ensures last { self.new.last
+            ≡ slice_set self.old.last (row_hash row.now)
+            (get_or self.old.previous r 0) }
         ensures previous { self.new.previous ≡ self.old.previous }
         ensures holding { self.new.holding ≡ self.old.holding }
     {
-        self.last[hash_of(row.entry.user_data)] = self.previous[r];
+        let hash = hash_of(row.entry.user_data);
+        self.last.set(hash, self.previous[r]);
     }
 
     /// Returns the end of the requests with this user_data: no request has it from there on.
-    pub(crate) fn end_of_user(&self, rows: &[Row], user_data: u64) -> usize
+    pub(crate) fn end_of_user(&self, rows: &Rows, user_data: u64) -> usize
         requires { Findable rows.now self.now }
         ensures within { result ≤ length rows.now }
         ensures none { NoUser user_data rows.now result (length rows.now) }
@@ -176,7 +185,7 @@ impl Finder {
     }
 
     /// Returns the end of those before request r.
-    pub(crate) fn end_before(&self, rows: &[Row], user_data: u64, r: usize) -> usize
+    pub(crate) fn end_before(&self, rows: &Rows, user_data: u64, r: usize) -> usize
         requires findable { Findable rows.now self.now }
         requires within { r < length rows.now }
         ensures below { result ≤ r }
@@ -195,7 +204,7 @@ impl Finder {
 
     /// Returns the first number from `at` on that a holder of the descriptor may have: that of the
     /// block's first request, or `at`.
-    pub(crate) fn next_block(&self, rows: &[Row], fd: u32, at: usize) -> Option<usize>
+    pub(crate) fn next_block(&self, rows: &Rows, fd: u32, at: usize) -> Option<usize>
         requires findable { Findable rows.now self.now }
         requires few { length rows.now ≤ 65536 }
         ensures some { IfSome result (λ start. (at ≤ start) × NoHolder fd rows.now at start) }
@@ -219,7 +228,7 @@ impl Finder {
     /// requests of the marked blocks only.
     pub(crate) fn next_holder(
         &self,
-        rows: &[Row],
+        rows: &Rows,
         index: &Index,
         fd: u32,
         from: usize,
@@ -243,12 +252,11 @@ impl Finder {
 
     /// Copies the finder.
     pub(crate) fn copy(&self, alloc: Global) -> Result<Finder, AllocError>
-        ensures { IfOk result (λ finder. (rows : List Row) → Findable rows self.now
-            → Findable rows finder) }
+        ensures { IfOk result (λ finder. finder ≡ self.now) }
     {
         Ok(Finder {
-            last: copy_numbers(alloc, &self.last)?,
-            previous: copy_numbers(alloc, &self.previous)?,
+            last: self.last.copy(alloc)?,
+            previous: self.previous.copy(alloc)?,
             holding: self.holding.copy(alloc)?,
         })
     }
@@ -257,7 +265,7 @@ impl Finder {
 // Returns the first request of a range that holds the descriptor, or the first one after the range,
 // if it is the next issued request. Examines issued requests only.
 fn next_holder_before(
-    rows: &[Row],
+    rows: &Rows,
     index: &Index,
     fd: u32,
     start: usize,
@@ -277,20 +285,6 @@ fn next_holder_before(
         at = r + 1;
     }
     None
-}
-
-// Copies the numbers in pieces, for the reason for which the table copies its rows so.
-fn copy_numbers(alloc: Global, numbers: &[u32]) -> Result<Vec<u32>, AllocError>
-    ensures { IfOk result (λ copy. copy.items ≡ numbers.now) }
-{
-    let mut copy = Vec::with_capacity(alloc, numbers.len())?;
-    let mut left = numbers;
-    while !left.is_empty() {
-        let (piece, remaining) = left.split_at(left.len().min(PIECE));
-        copy.extend_from_slice(piece)?;
-        left = remaining;
-    }
-    Ok(copy)
 }
 
 fn hash_of(user_data: u64) -> usize

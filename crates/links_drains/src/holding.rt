@@ -1,8 +1,9 @@
 //! Counts, for each descriptor, how many issued requests hold it.
-ghost use Rattle.std.specs.Prelude.{◌≡◌, ℕ, ◌+◌, ◌-◌, ◌<◌, ◌≤◌, ◌^◌, true, if◌then◌else◌};
+ghost use Rattle.std.specs.Prelude.{◌≡◌, ℕ, ◌+◌, ◌-◌, ◌<◌, ◌≤◌, ◌^◌, true, drop, if◌then◌else◌};
 ghost use Rattle.model_files.specs.Holders.{holders};
 ghost use Rattle.links_drains.specs.Holding.{holds, holders_of};
 
+use crate::table::Rows;
 use entries::{Phase, Row};
 use model_files::Held;
 
@@ -28,12 +29,13 @@ pub(crate) fn take_off(held: &mut Held, row: &Row)
     }
 }
 
-/// Removes the descriptors of several requests from the counts.
-pub(crate) fn take_all_off(held: &mut Held, rows: &[Row])
-    requires { (fd : ℕ) → holders_of rows.now fd ≤ holders held.old fd }
-    ensures { (fd : ℕ) → holders held.old fd ≡ holders held.new fd + holders_of rows.now fd }
+/// Removes the descriptors of the requests from number n on from the counts.
+pub(crate) fn take_all_off(held: &mut Held, rows: &Rows, n: usize)
+    requires { (fd : ℕ) → holders_of (drop n rows.now) fd ≤ holders held.old fd }
+    ensures { (fd : ℕ) → holders held.old fd
+        ≡ holders held.new fd + holders_of (drop n rows.now) fd }
 {
-    for row in rows {
-        take_off(held, row);
+    for r in n..rows.len() {
+        take_off(held, &rows[r]);
     }
 }

@@ -1,7 +1,8 @@
 //! An index of the request table: which requests may be issued, and which TIMEOUTs have
 //! reached their count, without a scan of all requests.
-ghost use Rattle.std.specs.Prelude.{◌≡◌, ℕ, ◌+◌, ◌-◌, ◌^◌, ◌<◌, ◌≤◌, [], true, Some, IfOk, IfSome, IfNone, OnOk, MatchBool, length, slice_get, take};
+ghost use Rattle.std.specs.Prelude.{◌≡◌, ℕ, ◌+◌, ◌-◌, ◌^◌, ◌<◌, ◌≤◌, List, [], true, Some, IfOk, IfSome, IfNone, OnOk, MatchBool, length, slice_get, take};
 ghost use Rattle.entries.specs.declared.row.Row.{Row};
+ghost use Rattle.links_drains.specs.Counts.{has_count as has_count_of};
 ghost use Rattle.links_drains.specs.Eligible.{is_eligible, GuardsFollow};
 ghost use Rattle.links_drains.specs.Links.{has_drain_flag as has_drain, Chained};
 ghost use Rattle.bit_sets.specs.Sets.{has, IsNext, NoneFrom};
@@ -10,7 +11,10 @@ ghost use Rattle.links_drains.specs.Units.{passes_at, is_open, is_barrier as is_
 
 mod queued;
 
-use crate::links::{has_drain_flag, is_guard, is_issued, is_queued, is_unfinished, threshold_of};
+use crate::links::{
+    has_count, has_drain_flag, is_guard, is_issued, is_queued, is_unfinished, threshold_of,
+};
+use crate::table::Rows;
 use bit_sets::BitSet;
 use bit_sets::thresholds::{NEVER, Thresholds};
 use entries::Row;
@@ -48,23 +52,29 @@ impl Index {
         }
     }
 
-    /// Makes room for one more request.
-    pub(crate) fn make_room(&mut self, rows: &[Row]) -> Result<(), AllocError>
+    /// Makes room for one more request. Thresholds are allocated with the first TIMEOUT that has a
+    /// count.
+    pub(crate) fn make_room(&mut self, rows: &Rows, row: &Row) -> Result<(), AllocError>
         requires indexed { Indexed rows.now self.old }
         requires few { length rows.now < 65536 }
         ensures ok { OnOk result (HasRoom (length rows.now + 1) self.new) }
+        ensures counted { OnOk result (has_count_of row.now ≡ true
+            → length rows.now < length self.new.thresholds) }
         ensures indexed { Indexed rows.now self.new }
     {
         self.unfinished.make_room(rows.len())?;
         self.flagged.make_room(rows.len())?;
         self.barriers.make_room(rows.len())?;
         self.issued.make_room(rows.len())?;
-        self.thresholds.make_room(rows.len())
+        if has_count(row) {
+            self.thresholds.make_room(rows.len())?;
+        }
+        Ok(())
     }
 
     /// Updates the index for request r, which is new, has changed within its chain, or is now the
     /// last.
-    pub(crate) fn update(&mut self, rows: &[Row], r: usize)
+    pub(crate) fn update(&mut self, rows: &Rows, r: usize)
         requires { (row : Row) × (slice_get rows.now r ≡ Some row)
             × IndexedBut r row.unit rows.now self.old }
         ensures { Indexed rows.now self.new }
@@ -78,15 +88,18 @@ impl Index {
         self.thresholds.write(r, threshold_of(row));
     }
 
-    /// Drops the requests from number n on, in time linear in how many they are.
-    pub(crate) fn cut(&mut self, rows: &[Row], n: usize)
-        requires indexed { Indexed rows.now self.old }
-        requires within { n ≤ length rows.now }
-        ensures { Indexed (take n rows.now) self.new }
+    /// Drops the requests after those that are left, up to number n, in time linear in how many they
+    /// are.
+    pub(crate) fn cut(&mut self, rows: &Rows, n: usize)
+        requires cut { (before : List Row) × Indexed before self.old × (length before ≡ n)
+            × (rows.now ≡ take (length rows.now) before) }
+        requires within { length rows.now ≤ n }
+        ensures { Indexed rows.now self.new }
     {
-        self.forget(n, rows.len());
-        if n > 0 {
-            self.update(&rows[..n], n - 1);
+        let left = rows.len();
+        self.forget(left, n);
+        if left > 0 {
+            self.update(rows, left - 1);
         }
     }
 
@@ -105,7 +118,7 @@ impl Index {
     }
 
     /// Returns whether request r may be issued, in constant time.
-    pub(crate) fn is_eligible(&self, rows: &[Row], r: usize) -> bool
+    pub(crate) fn is_eligible(&self, rows: &Rows, r: usize) -> bool
         requires indexed { Indexed rows.now self.now }
         requires guards { GuardsFollow rows.now }
         ensures { result ≡ is_eligible rows.now r }
@@ -167,7 +180,7 @@ impl Index {
 }
 
 // Whether the chain drains and has an unfinished request.
-fn is_barrier(flagged: &BitSet, unfinished: &BitSet, rows: &[Row], unit: u32) -> bool
+fn is_barrier(flagged: &BitSet, unfinished: &BitSet, rows: &Rows, unit: u32) -> bool
     requires chained { Chained rows.now }
     requires flagged { (r : ℕ) → has flagged.now r ≡ passes_at has_drain rows.now r }
     requires unfinished { (r : ℕ) → has unfinished.now r ≡ passes_at is_open rows.now r }
@@ -181,7 +194,7 @@ fn is_barrier(flagged: &BitSet, unfinished: &BitSet, rows: &[Row], unit: u32) ->
 }
 
 // Whether a set of request numbers has a request of the chain.
-fn has_row_of(set: &BitSet, rows: &[Row], unit: u32) -> bool
+fn has_row_of(set: &BitSet, rows: &Rows, unit: u32) -> bool
     requires chained { Chained rows.now }
     requires within { (r : ℕ) → has set.now r ≡ true → r < length rows.now }
     ensures { MatchBool result (HasRowOf set.now rows.now unit) (HasNoRowOf set.now rows.now unit) }

@@ -14,4 +14,5 @@ pub mod table;
 
 pub use links::{is_guard, is_issued, is_soft_linked, is_unfinished};
 pub use submission::Batch;
+pub use table::sharing::SharedTable;
 pub use table::{Table, new_row};

@@ -1,6 +1,6 @@
 //! Tests of a request's link and drain flags, and of its phase (io_uring_enter(2)).
 ghost use Rattle.std.specs.Prelude.{◌≡◌};
-ghost use Rattle.links_drains.specs.Counts.{is_count_timeout, threshold_of};
+ghost use Rattle.links_drains.specs.Counts.{has_count, is_count_timeout, threshold_of};
 ghost use Rattle.links_drains.specs.Links.{is_soft_linked, is_linked, is_guard, has_drain_flag};
 ghost use Rattle.links_drains.specs.Phases.{is_issued, is_queued, is_unfinished};
 
@@ -50,11 +50,18 @@ pub fn is_issued(row: &Row) -> bool
     matches!(row.phase, Phase::Issued)
 }
 
+/// Returns whether the request is a TIMEOUT with a number of completions to wait for.
+pub(crate) fn has_count(row: &Row) -> bool
+    ensures { result ≡ has_count row.now }
+{
+    row.entry.opcode == Op::Timeout as u8 && 0 < row.entry.off
+}
+
 /// Returns whether the request is an issued TIMEOUT that waits for a number of completions.
 pub(crate) fn is_count_timeout(row: &Row) -> bool
     ensures { result ≡ is_count_timeout row.now }
 {
-    is_issued(row) && row.entry.opcode == Op::Timeout as u8 && 0 < row.entry.off
+    is_issued(row) && has_count(row)
 }
 
 /// Returns whether the request has not completed.

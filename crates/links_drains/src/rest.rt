@@ -4,11 +4,11 @@ ghost use Rattle.links_drains.specs.Links.{Chained};
 ghost use Rattle.links_drains.specs.Units.{rest_of};
 
 use crate::links::is_unfinished;
-use entries::Row;
+use crate::table::Rows;
 use std::alloc::{AllocError, Global};
 
 /// Returns the later requests of r's chain that have not completed, by ascending number.
-pub(crate) fn rest_in(alloc: Global, rows: &[Row], r: usize) -> Result<Vec<u32>, AllocError>
+pub(crate) fn rest_in(alloc: Global, rows: &Rows, r: usize) -> Result<Vec<u32>, AllocError>
     requires chained { Chained rows.now }
     requires few { length rows.now ≤ 65536 }
     ensures { IfOk result (λ rest. rest.items ≡ rest_of rows.now r) }

@@ -96,7 +96,7 @@ impl Table {
         let first = self.len();
         self.add_rows(entries, world, notes)?;
         let alloc = self.allocator();
-        let direct = direct_ends(alloc, world, entries, first as u32, &self.rows()[first..])?;
+        let direct = direct_ends(alloc, world, entries, first as u32, self.rows())?;
         Ok(direct)
     }
 

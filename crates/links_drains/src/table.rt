@@ -17,6 +17,7 @@ ghost use Rattle.links_drains.specs.Units.{is_open, rest_of as rest_of_unit, nex
 mod ending;
 mod finding;
 mod queued;
+pub mod sharing;
 
 use crate::finder::Finder;
 use crate::holding::{count, take_all_off, take_off};
@@ -25,16 +26,20 @@ use crate::rest::rest_in;
 use entries::{Phase, Row, Sqe};
 use model_files::Held;
 use places::{At, Part, Place, Recorder, Value};
+use shared_pages::PagedList;
 use std::alloc::{AllocError, Global};
 use std::marker::Model;
 
-/// Rows copied at once: 1,920 bytes.
-const PIECE: usize = 12;
+/// The number of requests that share a page: 10 KB.
+const ROWS: usize = 64;
+
+/// The rows of a table.
+pub(crate) type Rows = PagedList<Row, ROWS>;
 
 /// All requests ever submitted, in order. A request's number is its index.
 #[derive(Drop)]
 pub struct Table {
-    rows: Vec<Row>,
+    rows: Rows,
     /// How many issued requests hold each descriptor.
     held: Held,
     /// Finds requests by their phase, chain and threshold.
@@ -49,11 +54,11 @@ impl Model for Table {
 
     ghost Value = { List Row };
 
-    ghost view = { λ a. a.rows.items };
+    ghost view = { λ a. a.rows };
 
     ghost use Rattle.links_drains.specs.Tables.{Formed};
 
-    ghost invariant = { λ a. Formed a.rows.items a.held a.index a.finder };
+    ghost invariant = { λ a. Formed a.rows a.held a.index a.finder };
 }
 
 impl At for Table {
@@ -101,7 +106,7 @@ impl Table {
         ensures { result ≡ [] }
     {
         Table {
-            rows: Vec::new(alloc),
+            rows: PagedList::new(alloc),
             held: Held::new(),
             index: Index::new(alloc),
             finder: Finder::new(alloc),
@@ -110,7 +115,7 @@ impl Table {
 
     /// Returns the allocator of the table.
     pub fn allocator(&self) -> Global {
-        *self.rows.allocator()
+        self.rows.allocator()
     }
 
     /// Returns the number of requests: at most 65,536 in a run.
@@ -145,7 +150,7 @@ impl Table {
         &self.rows[r as usize]
     }
 
-    pub(crate) fn rows(&self) -> &[Row]
+    pub(crate) fn rows(&self) -> &Rows
         ensures { result.now ≡ self.now }
     {
         &self.rows
@@ -251,8 +256,7 @@ impl Table {
         ensures others { notes.old.others ≤ notes.new.others + 1 }
     {
         let r = self.rows.len();
-        self.rows.reserve(1)?;
-        self.index.make_room(&self.rows)?;
+        self.index.make_room(&self.rows, &row)?;
         self.finder.make_room(&self.rows)?;
         notes.note_row(r as u32, None)?;
         self.rows.push(row)?;
@@ -331,7 +335,7 @@ impl Table {
     {
         take_off(&mut self.held, &self.rows[r]);
         count(&mut self.held, &after);
-        self.rows[r] = after;
+        self.rows.set(r, after);
         self.index.update(&self.rows, r);
         self.finder.mark(r, &after);
     }
@@ -341,11 +345,12 @@ impl Table {
     pub fn truncate(&mut self, n: usize)
         ensures { self.new ≡ take n self.old }
     {
-        if n < self.rows.len() {
-            take_all_off(&mut self.held, &self.rows[n..]);
-            self.index.cut(&self.rows, n);
+        let count = self.rows.len();
+        if n < count {
+            take_all_off(&mut self.held, &self.rows, n);
             self.finder.cut(&self.rows, n);
             self.rows.truncate(n);
+            self.index.cut(&self.rows, count);
         }
     }
 
@@ -354,29 +359,12 @@ impl Table {
         ensures { IfOk result (λ table. table ≡ self.now) }
     {
         Ok(Table {
-            rows: copy_rows(alloc, &self.rows)?,
+            rows: self.rows.copy(alloc)?,
             held: self.held,
             index: self.index.copy(alloc)?,
             finder: self.finder.copy(alloc)?,
         })
     }
-}
-
-/// Copies the rows in pieces, with room for some more: else all rows would move at the first push.
-/// glibc copies more than 2,048 bytes or so, depending on the processor,
-/// with `rep movsb`, which callgrind counts as an instruction per byte. Smaller pieces keep the
-/// counts comparable, and take the same time.
-fn copy_rows(alloc: Global, rows: &[Row]) -> Result<Vec<Row>, AllocError>
-    ensures { IfOk result (λ copy. copy.items ≡ rows.now) }
-{
-    let mut copy = Vec::with_capacity(alloc, rows.len().saturating_add(rows.len() / 8))?;
-    let mut left = rows;
-    while !left.is_empty() {
-        let (piece, remaining) = left.split_at(left.len().min(PIECE));
-        copy.extend_from_slice(piece)?;
-        left = remaining;
-    }
-    Ok(copy)
 }
 
 /// Builds the queued request of an entry. `unit` is the number of the chain's first request, `time`

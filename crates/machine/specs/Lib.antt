@@ -9,3 +9,4 @@ pub mod Runs
 pub mod Deadlines
 pub mod Owners
 pub mod Transfers
+pub mod Sharing

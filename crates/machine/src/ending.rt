@@ -62,7 +62,7 @@ impl Machine {
     {
         if endings.len() == 1 {
             let (r, res) = endings[0];
-            let completion = completion_of(res, &self.table.row(r));
+            let completion = completion_of(res, self.table.row_ref(r));
             return self.post(&[completion], notes);
         }
         let completions = self.completions_of(endings)?;
@@ -77,7 +77,7 @@ impl Machine {
         let mut completions = Vec::new(self.table.allocator());
         for i in 0..endings.len() {
             let (r, res) = endings[i];
-            completions.push(completion_of(res, &self.table.row(r)))?;
+            completions.push(completion_of(res, self.table.row_ref(r)))?;
         }
         Ok(completions)
     }

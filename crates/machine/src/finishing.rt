@@ -1,5 +1,5 @@
 //! Issues requests, and completes them with the outcome that the kernel chose (io_uring_enter(2)).
-ghost use Rattle.std.specs.Prelude.{◌≡◌, ◌+◌, ◌<◌, IfNone, IfSome, OnOk, None, Some, false, true, slice_get};
+ghost use Rattle.std.specs.Prelude.{◌≡◌, ◌+◌, ◌<◌, OnOk, None, Some, false, true, slice_get, length};
 ghost use Rattle.std.specs.Option.{option_map_or};
 ghost use Rattle.places.specs.Lists.{updated};
 ghost use Rattle.links_drains.specs.Holding.{is_held_by};
@@ -32,21 +32,21 @@ impl Machine {
         ensures keeps { Keeps everywhere (view self.old)
             (view self.new) notes.old.made notes.new.made }
     {
-        let row = self.table.row(r);
-        if lacks_descriptor(&self.world, &row) {
+        let row = self.table.row_ref(r);
+        if lacks_descriptor(&self.world, row) {
             return self.cascade(&[(r, -EBADF)], notes);
         }
-        self.start(r, &row, notes)?;
-        match self.guard_of(r) {
-            Some(guard) => self.start(r + 1, &guard, notes),
-            None => Ok(()),
+        self.start(r, notes)?;
+        if self.has_guard(r) {
+            return self.start(r + 1, notes);
         }
+        Ok(())
     }
 
     // Issues one request, without its linked timeout. A timer gets its deadline.
-    fn start(&mut self, r: u32, row: &Row, notes: &mut Recorder) -> Result<(), AllocError>
-        requires there { slice_get self.old.table r ≡ Some row.now }
-        requires time { IsTime row.now.time }
+    fn start(&mut self, r: u32, notes: &mut Recorder) -> Result<(), AllocError>
+        requires there { r < length self.old.table }
+        requires time { (row : Row) → slice_get self.old.table r ≡ Some row → IsTime row.time }
         ensures ok { OnOk result (self.new
             ≡ record self.old {
               table = updated
@@ -56,23 +56,21 @@ impl Machine {
         ensures keeps { Keeps everywhere (view self.old)
             (view self.new) notes.old.made notes.new.made }
     {
+        let row = self.table.row_ref(r);
         let deadline = deadline_of(self.clock, row);
         let base = base_of(self.counted, row);
-        self.table.issue(r, held_by(row), deadline, base, notes)
+        let held = held_by(row);
+        self.table.issue(r, held, deadline, base, notes)
     }
 
-    // The queued linked timeout of request r, if the next request is one.
-    fn guard_of(&self, r: u32) -> Option<Row>
+    // Whether the next request is the queued linked timeout of request r.
+    fn has_guard(&self, r: u32) -> bool
         requires few { r < 65536 }
-        ensures some { IfSome result (λ guard. (slice_get self.now.table (r + 1) ≡ Some guard)
-            × (is_guard_of r guard ≡ true)) }
-        ensures none { IfNone result
-            (option_map_or (is_guard_of r) (slice_get self.now.table (r + 1)) false ≡ false) }
+        ensures value { result
+            ≡ option_map_or (is_guard_of r) (slice_get self.now.table (r + 1)) false }
+        ensures there { result ≡ true → r + 1 < length self.now.table }
     {
-        match self.table.get(r + 1) {
-            Some(row) if is_guard_of(r, &row) => Some(row),
-            _ => None,
-        }
+        r as usize + 1 < self.table.len() && is_guard_of(r, self.table.row_ref(r + 1))
     }
 
     /// Completes an issued request with a result, after its effect, and its cascade.
@@ -90,8 +88,8 @@ impl Machine {
         ensures keeps { Keeps everywhere (view self.old)
             (view self.new) notes.old.made notes.new.made }
     {
-        let row = self.table.row(r);
-        carry_out(&mut self.world, &row, res, notes)?;
+        let row = self.table.row_ref(r);
+        carry_out(&mut self.world, row, res, notes)?;
         self.cascade(&[(r, res)], notes)
     }
 

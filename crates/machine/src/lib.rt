@@ -12,6 +12,7 @@ mod performing;
 mod planning;
 mod refusing;
 mod restoring;
+pub mod sharing;
 mod starting;
 pub mod state;
 mod stepping;
@@ -24,4 +25,4 @@ pub use scenario::{
     Event, Instruction, PlaceFault, Refusal, Setup, SetupRefusal, place_of, read_number, ring_size,
     setup_refusal,
 };
-pub use state::State;
+pub use state::{Snapshot, State};

@@ -2,11 +2,13 @@
 
 mod repeating;
 mod rows;
+mod snapshot;
 
 use crate::whole::Machine;
 use places::{At, Place, Record, Recorder, Value};
 use ring_words::{ComRing, SubRing};
 use scenario::{Event, Refusal, Setup, SetupRefusal, setup_refusal};
+pub use snapshot::Snapshot;
 use std::alloc::{AllocError, Global};
 use std::marker::Model;
 

@@ -104,6 +104,7 @@ impl At for Threads {
 
     ghost seen = { threads_seen };
 
+    #[inline(always)]
     fn at(&self, place: Place) -> Option<Value> {
         match place {
             Place::ProgramCounter(t) => match self.threads.get(t as usize) {

@@ -38,6 +38,7 @@ impl At for Machine {
 
     ghost seen = { view };
 
+    #[inline(always)]
     fn at(&self, place: Place) -> Option<Value> {
         match place {
             Place::SubmissionHead

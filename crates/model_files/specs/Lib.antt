@@ -5,4 +5,5 @@ pub mod Pages
 pub mod Differing
 pub mod Pipes
 pub mod Worlds
+pub mod Shared
 pub mod Ends

@@ -5,45 +5,44 @@ ghost use Rattle.places.specs.Stretched.{kept_of, CanCount};
 ghost use Rattle.model_files.specs.Files.{overwritten, padded, zeros};
 
 use places::Stretch;
+use shared_pages::Page;
 use std::alloc::{AllocError, Global};
 
 /// The maximum size of a file, in bytes, and the size of the memory.
 pub const MOST_BYTES: usize = 65536;
 
 /// Overwrites bytes from index `at` on.
-pub fn overwrite(bytes: &mut Vec<u8>, at: usize, others: &[u8])
-    requires { at + length others.now ≤ length bytes.old.items }
-    ensures next { bytes.new.items ≡ overwritten bytes.old.items at others.now }
-    ensures len { length bytes.new.items ≡ length bytes.old.items }
+pub fn overwrite(bytes: &mut Page<u8>, at: usize, others: &[u8])
+    requires { at + length others.now ≤ length bytes.old }
+    ensures next { bytes.new ≡ overwritten bytes.old at others.now }
+    ensures len { length bytes.new ≡ length bytes.old }
 {
-    let end = at + others.len();
-    bytes[at..end].copy_from_slice(others);
+    bytes.overwrite(at, others);
 }
 
 /// Restores the recorded bytes of a stretch, as far as `bytes` reaches.
-pub fn put_over(bytes: &mut Vec<u8>, stretch: &Stretch<'_>)
+pub fn put_over(bytes: &mut Page<u8>, stretch: &Stretch<'_>)
     requires { CanCount stretch.now }
-    ensures over { PutOver bytes.old.items stretch.now.start (kept_of stretch.now)
-        bytes.new.items }
-    ensures len { length bytes.new.items ≡ length bytes.old.items }
+    ensures over { PutOver bytes.old stretch.now.start (kept_of stretch.now) bytes.new }
+    ensures len { length bytes.new ≡ length bytes.old }
 {
     if stretch.gone.is_empty() {
         put_all_over(bytes, stretch.start as usize, stretch.olds);
     } else {
-        put_over_slice(bytes, stretch);
+        put_kept_over(bytes, stretch);
     }
 }
 
-fn put_all_over(bytes: &mut Vec<u8>, start: usize, olds: &[u8])
-    ensures over { PutOver bytes.old.items start (map Some olds.now) bytes.new.items }
-    ensures len { length bytes.new.items ≡ length bytes.old.items }
+fn put_all_over(bytes: &mut Page<u8>, start: usize, olds: &[u8])
+    ensures over { PutOver bytes.old start (map Some olds.now) bytes.new }
+    ensures len { length bytes.new ≡ length bytes.old }
 {
     let from = start.min(bytes.len());
     let n = olds.len().min(bytes.len() - from);
     overwrite(bytes, from, &olds[..n]);
 }
 
-fn put_over_slice(bytes: &mut [u8], stretch: &Stretch<'_>)
+fn put_kept_over(bytes: &mut Page<u8>, stretch: &Stretch<'_>)
     requires { CanCount stretch.now }
     ensures over { PutOver bytes.old stretch.now.start (kept_of stretch.now) bytes.new }
     ensures len { length bytes.new ≡ length bytes.old }
@@ -53,17 +52,17 @@ fn put_over_slice(bytes: &mut [u8], stretch: &Stretch<'_>)
     let n = stretch.olds.len().min(most);
     for i in 0..n {
         let at = from + i;
-        bytes[at] = stretch.kept(i).unwrap_or(bytes[at]);
+        bytes.set(at, stretch.kept(i).unwrap_or(bytes.as_slice()[at]));
     }
 }
 
 /// Returns the bytes, padded with zeros to the maximum size.
-pub fn pad(alloc: Global, bytes: &[u8]) -> Result<Vec<u8>, AllocError>
+pub fn pad(alloc: Global, bytes: &[u8]) -> Result<Page<u8>, AllocError>
     requires { length bytes.now ≤ 65536 }
-    ensures ok { IfOk result (λ all. all.items ≡ padded bytes.now) }
-    ensures len { IfOk result (λ all. length all.items ≡ 65536) }
+    ensures ok { IfOk result (λ all. all ≡ padded bytes.now) }
+    ensures len { IfOk result (λ all. length all ≡ 65536) }
 {
-    fill_up(alloc, bytes, MOST_BYTES)
+    Ok(Page::new(fill_up(alloc, bytes, MOST_BYTES)?))
 }
 
 fn fill_up(alloc: Global, bytes: &[u8], size: usize) -> Result<Vec<u8>, AllocError>

@@ -8,16 +8,18 @@ ghost use Rattle.model_files.specs.Files.{file_seen, file_start, synced, written
 use crate::bytes::{overwrite, pad, put_over};
 use crate::pages::Pages;
 use places::{At, Place, Region, Stretch, Value};
+use shared_pages::Page;
 use std::alloc::{AllocError, Global};
 use std::marker::Model;
+use std::sync::Arc;
 
 /// A regular file: its current contents, which a program reads and writes, and its durable
 /// contents.
 #[derive(Drop)]
 pub struct RegularFile {
-    bytes: Vec<u8>,
+    bytes: Page<u8>,
     len: u32,
-    durable: Vec<u8>,
+    durable: Page<u8>,
     durable_len: u32,
     /// The pages in which the two contents may differ.
     dirty: Pages,
@@ -30,20 +32,84 @@ impl Model for RegularFile {
     ghost Value = { FileState };
 
     ghost view = { λ a. record {
-      bytes = a.bytes.items;
+      bytes = a.bytes;
       len = a.len;
-      durable = a.durable.items;
+      durable = a.durable;
       durable_len = a.durable_len;
     } };
 
     ghost invariant = { λ a. FileTracked
         (record {
-          bytes = a.bytes.items;
+          bytes = a.bytes;
           len = a.len;
-          durable = a.durable.items;
+          durable = a.durable;
           durable_len =
               a.durable_len;
         }) a.dirty.marks };
+}
+
+/// A copy of a file that shares its bytes.
+#[derive(Drop)]
+pub struct SharedFile {
+    bytes: Arc<Vec<u8>>,
+    len: u32,
+    durable: Arc<Vec<u8>>,
+    durable_len: u32,
+    dirty: Pages,
+}
+
+impl Model for SharedFile {
+    ghost use Rattle.model_files.specs.Files.{FileState};
+    ghost use Rattle.model_files.specs.Pages.{FileTracked};
+
+    ghost Value = { FileState };
+
+    ghost view = { λ a. record {
+      bytes = a.bytes.value.items;
+      len = a.len;
+      durable = a.durable.value.items;
+      durable_len = a.durable_len;
+    } };
+
+    ghost invariant = { λ a. FileTracked
+        (record {
+          bytes = a.bytes.value.items;
+          len = a.len;
+          durable = a.durable.value.items;
+          durable_len =
+              a.durable_len;
+        }) a.dirty.marks };
+}
+
+impl SharedFile {
+    /// Returns the file, in the storage of `room` if there is one.
+    pub(crate) fn restore(
+        &self,
+        alloc: Global,
+        room: Option<RegularFile>,
+    ) -> Result<RegularFile, AllocError>
+        ensures { IfOk result (λ f. f ≡ self.now) }
+    {
+        let (bytes, durable) = match room {
+            Some(
+                RegularFile {
+                    bytes,
+                    len: _,
+                    durable,
+                    durable_len: _,
+                    dirty: _,
+                },
+            ) => (Some(bytes), Some(durable)),
+            None => (None, None),
+        };
+        Ok(RegularFile {
+            bytes: Page::restore(alloc, &self.bytes, bytes)?,
+            len: self.len,
+            durable: Page::restore(alloc, &self.durable, durable)?,
+            durable_len: self.durable_len,
+            dirty: self.dirty,
+        })
+    }
 }
 
 impl At for RegularFile {
@@ -51,11 +117,11 @@ impl At for RegularFile {
 
     fn at(&self, place: Place) -> Option<Value> {
         match place {
-            Place::FileByte(_, i) => match self.bytes.get(i as usize) {
+            Place::FileByte(_, i) => match self.bytes.as_slice().get(i as usize) {
                 Some(byte) => Some(Value::Byte(*byte)),
                 None => None,
             },
-            Place::DurableByte(_, i) => match self.durable.get(i as usize) {
+            Place::DurableByte(_, i) => match self.durable.as_slice().get(i as usize) {
                 Some(byte) => Some(Value::Byte(*byte)),
                 None => None,
             },
@@ -67,8 +133,8 @@ impl At for RegularFile {
 
     fn bytes_in(&self, region: Region) -> Option<&[u8]> {
         match region {
-            Region::File(_) => Some(&self.bytes),
-            Region::Durable(_) => Some(&self.durable),
+            Region::File(_) => Some(self.bytes.as_slice()),
+            Region::Durable(_) => Some(self.durable.as_slice()),
             _ => None,
         }
     }
@@ -95,9 +161,24 @@ impl RegularFile {
         ensures { IfOk result (λ f. f ≡ self.now) }
     {
         Ok(RegularFile {
-            bytes: Vec::from_slice(alloc, &self.bytes)?,
+            bytes: self.bytes.copy(alloc)?,
             len: self.len,
-            durable: Vec::from_slice(alloc, &self.durable)?,
+            durable: self.durable.copy(alloc)?,
+            durable_len: self.durable_len,
+            dirty: self.dirty,
+        })
+    }
+
+    /// Returns a copy that shares the bytes. Copies only bytes that were written since the last
+    /// shared copy.
+    pub(crate) fn share(&mut self, alloc: Global) -> Result<SharedFile, AllocError>
+        ensures ok { IfOk result (λ f. f ≡ self.old) }
+        ensures same { self.new ≡ self.old }
+    {
+        Ok(SharedFile {
+            bytes: self.bytes.keep(alloc)?,
+            len: self.len,
+            durable: self.durable.keep(alloc)?,
             durable_len: self.durable_len,
             dirty: self.dirty,
         })
@@ -108,7 +189,7 @@ impl RegularFile {
         ensures value { result.now ≡ self.now.bytes }
         ensures len { length result.now ≡ 65536 }
     {
-        &self.bytes
+        self.bytes.as_slice()
     }
 
     /// Returns the length of the file in bytes.
@@ -124,7 +205,7 @@ impl RegularFile {
         ensures len { length result.now ≡ 65536 }
         ensures sized { FileSized self.now }
     {
-        &self.durable
+        self.durable.as_slice()
     }
 
     /// Returns whether the durable contents may differ in a page.
@@ -153,11 +234,11 @@ impl RegularFile {
         match (place, value) {
             (Place::FileByte(_, i), Value::Byte(byte)) => {
                 self.dirty.mark(i as usize, 1);
-                self.bytes[i as usize] = byte
+                self.bytes.set(i as usize, byte)
             }
             (Place::DurableByte(_, i), Value::Byte(byte)) => {
                 self.dirty.mark(i as usize, 1);
-                self.durable[i as usize] = byte
+                self.durable.set(i as usize, byte)
             }
             (Place::FileLength(_), Value::Number(n)) => self.len = n as u32,
             (Place::DurableLength(_), Value::Number(n)) => self.durable_len = n as u32,
@@ -211,7 +292,8 @@ impl RegularFile {
     pub(crate) fn sync(&mut self)
         ensures { self.new ≡ synced self.old }
     {
-        self.dirty.sync_into(&self.bytes, &mut self.durable);
+        self.dirty
+            .sync_into(self.bytes.as_slice(), &mut self.durable);
         self.durable_len = self.len;
         self.dirty = Pages::none();
     }

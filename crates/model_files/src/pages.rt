@@ -3,6 +3,7 @@ ghost use Rattle.std.specs.Prelude.{◌≡◌, ◌+◌, ◌*◌, ◌<◌, ◌≤
 ghost use Rattle.model_files.specs.Pages.{Agree};
 
 use crate::bytes::{MOST_BYTES, overwrite};
+use shared_pages::Page;
 
 /// The size of a page in bytes.
 pub(crate) const PAGE: usize = 4096;
@@ -62,30 +63,30 @@ impl Pages {
     }
 
     /// Copies each marked page to the durable contents.
-    pub(crate) fn sync_into(&self, bytes: &[u8], durable: &mut Vec<u8>)
+    pub(crate) fn sync_into(&self, bytes: &[u8], durable: &mut Page<u8>)
         requires bytes { length bytes.now ≡ 65536 }
-        requires durable { length durable.old.items ≡ 65536 }
-        requires clean { Agree self.now.marks bytes.now durable.old.items }
-        ensures { durable.new.items ≡ bytes.now }
+        requires durable { length durable.old ≡ 65536 }
+        requires clean { Agree self.now.marks bytes.now durable.old }
+        ensures { durable.new ≡ bytes.now }
     {
         for page in 0..PAGES {
             self.sync_page(page, bytes, durable);
         }
     }
 
-    fn sync_page(&self, page: usize, bytes: &[u8], durable: &mut Vec<u8>)
+    fn sync_page(&self, page: usize, bytes: &[u8], durable: &mut Page<u8>)
         requires page { page < 16 }
         requires bytes { length bytes.now ≡ 65536 }
-        requires durable { length durable.old.items ≡ 65536 }
+        requires durable { length durable.old ≡ 65536 }
         requires clean { (i : ℕ) → slice_get self.now.marks page ≡ Some false → page * 4096 ≤ i
-            → i < page * 4096 + 4096 → slice_get bytes.now i ≡ slice_get durable.old.items i }
-        ensures len { length durable.new.items ≡ 65536 }
+            → i < page * 4096 + 4096 → slice_get bytes.now i ≡ slice_get durable.old i }
+        ensures len { length durable.new ≡ 65536 }
         ensures before { (i : ℕ) → i < page * 4096
-            → slice_get durable.new.items i ≡ slice_get durable.old.items i }
+            → slice_get durable.new i ≡ slice_get durable.old i }
         ensures there { (i : ℕ) → page * 4096 ≤ i → i < page * 4096 + 4096
-            → slice_get durable.new.items i ≡ slice_get bytes.now i }
+            → slice_get durable.new i ≡ slice_get bytes.now i }
         ensures after { (i : ℕ) → page * 4096 + 4096 ≤ i
-            → slice_get durable.new.items i ≡ slice_get durable.old.items i }
+            → slice_get durable.new i ≡ slice_get durable.old i }
     {
         if self.is_marked(page) {
             let start = page * PAGE;

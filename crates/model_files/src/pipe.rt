@@ -7,15 +7,17 @@ ghost use Rattle.model_files.specs.Pipes.{pipe_seen, pipe_start, bytes_from, fil
 
 use crate::bytes::{overwrite, put_over};
 use places::{At, Place, Region, Stretch, Value};
+use shared_pages::Page;
 use std::alloc::{AllocError, Global};
 use std::marker::Model;
+use std::sync::Arc;
 
 /// A pipe (pipe(7)). Bytes are numbered from 0 over the whole run, and byte n is in slot n modulo
 /// the capacity.
 #[derive(Drop)]
 pub struct PipeBuffer {
     /// A ring buffer; its length is the capacity.
-    slots: Vec<u8>,
+    slots: Page<u8>,
     /// How many bytes have been written.
     put: u64,
     /// How many bytes have been read.
@@ -27,7 +29,50 @@ impl Model for PipeBuffer {
 
     ghost Value = { PipeState };
 
-    ghost view = { λ a. record { slots = a.slots.items; put = a.put; taken = a.taken } };
+    ghost view = { λ a. record { slots = a.slots; put = a.put; taken = a.taken } };
+}
+
+/// A copy of a pipe that shares its bytes.
+#[derive(Drop)]
+pub struct SharedPipe {
+    slots: Arc<Vec<u8>>,
+    put: u64,
+    taken: u64,
+}
+
+impl Model for SharedPipe {
+    ghost use Rattle.model_files.specs.Pipes.{PipeState};
+
+    ghost Value = { PipeState };
+
+    ghost view = { λ a. record { slots = a.slots.value.items; put = a.put; taken = a.taken } };
+}
+
+impl SharedPipe {
+    /// Returns the pipe, in the storage of `room` if there is one of the same capacity.
+    pub(crate) fn restore(
+        &self,
+        alloc: Global,
+        room: Option<PipeBuffer>,
+    ) -> Result<PipeBuffer, AllocError>
+        ensures { IfOk result (λ pipe. pipe ≡ self.now) }
+    {
+        let slots = match room {
+            Some(
+                PipeBuffer {
+                    slots,
+                    put: _,
+                    taken: _,
+                },
+            ) => Some(slots),
+            None => None,
+        };
+        Ok(PipeBuffer {
+            slots: Page::restore(alloc, &self.slots, slots)?,
+            put: self.put,
+            taken: self.taken,
+        })
+    }
 }
 
 impl At for PipeBuffer {
@@ -35,7 +80,7 @@ impl At for PipeBuffer {
 
     fn at(&self, place: Place) -> Option<Value> {
         match place {
-            Place::PipeByte(_, i) => match self.slots.get(i as usize) {
+            Place::PipeByte(_, i) => match self.slots.as_slice().get(i as usize) {
                 Some(byte) => Some(Value::Byte(*byte)),
                 None => None,
             },
@@ -47,7 +92,7 @@ impl At for PipeBuffer {
 
     fn bytes_in(&self, region: Region) -> Option<&[u8]> {
         match region {
-            Region::Pipe(_) => Some(&self.slots),
+            Region::Pipe(_) => Some(self.slots.as_slice()),
             _ => None,
         }
     }
@@ -59,7 +104,7 @@ impl PipeBuffer {
         ensures { IfOk result (λ pipe. pipe ≡ pipe_start capacity) }
     {
         Ok(PipeBuffer {
-            slots: vec![in alloc; 0; capacity]?,
+            slots: Page::new(vec![in alloc; 0; capacity]?),
             put: 0,
             taken: 0,
         })
@@ -70,7 +115,20 @@ impl PipeBuffer {
         ensures { IfOk result (λ pipe. pipe ≡ self.now) }
     {
         Ok(PipeBuffer {
-            slots: Vec::from_slice(alloc, &self.slots)?,
+            slots: self.slots.copy(alloc)?,
+            put: self.put,
+            taken: self.taken,
+        })
+    }
+
+    /// Returns a copy that shares the bytes. Copies only bytes that were written since the last
+    /// shared copy.
+    pub(crate) fn share(&mut self, alloc: Global) -> Result<SharedPipe, AllocError>
+        ensures ok { IfOk result (λ pipe. pipe ≡ self.old) }
+        ensures same { self.new ≡ self.old }
+    {
+        Ok(SharedPipe {
+            slots: self.slots.keep(alloc)?,
             put: self.put,
             taken: self.taken,
         })
@@ -107,7 +165,7 @@ impl PipeBuffer {
     pub(crate) fn slots(&self) -> &[u8]
         ensures { result.now ≡ self.now.slots }
     {
-        &self.slots
+        self.slots.as_slice()
     }
 
     /// Returns the `count` oldest bytes in two parts: those up to the last slot, and those from the
@@ -119,9 +177,10 @@ impl PipeBuffer {
             ≡ bytes_from self.now.slots self.now.taken count }
         ensures len { length result.0.now + length result.1.now ≡ count }
     {
-        let at = (self.taken % self.slots.len() as u64) as usize;
-        let first = count.min(self.slots.len() - at);
-        (&self.slots[at..at + first], &self.slots[..count - first])
+        let slots = self.slots.as_slice();
+        let at = (self.taken % slots.len() as u64) as usize;
+        let first = count.min(slots.len() - at);
+        (&slots[at..at + first], &slots[..count - first])
     }
 
     /// Removes the `count` oldest bytes.
@@ -170,7 +229,7 @@ impl PipeBuffer {
         ensures size { length self.new.slots ≡ length self.old.slots }
     {
         match (place, value) {
-            (Place::PipeByte(_, i), Value::Byte(byte)) => self.slots[i as usize] = byte,
+            (Place::PipeByte(_, i), Value::Byte(byte)) => self.slots.set(i as usize, byte),
             (Place::PutCount(_), Value::Number(n)) => self.put = n,
             (Place::TakenCount(_), Value::Number(n)) => self.taken = n,
             // No other place can be set, so any is left alone.

@@ -15,6 +15,8 @@ ghost use Rattle.model_files.specs.Objects.{object_in, NamesChanges};
 ghost use Rattle.model_files.specs.Pipes.{GivesOut, TakesIn};
 ghost use Rattle.model_files.specs.Worlds.{world_owns, world_seen, world_can_put, descriptor_of, descriptor_at, file_of, mark_of, world_read, world_written, world_synced, world_at, world_closed, world_stored, world_taken, world_put, world_added, world_cleared, world_start, oldest, number_at, pipe_of, counter_of, stock_of, StockFits, ContentsFit, OneSetup};
 
+mod sharing;
+
 use crate::body::Body;
 use crate::bytes::{overwrite, pad, put_over};
 use crate::descriptor::DescriptorState;
@@ -22,6 +24,8 @@ use crate::differing::note_differing;
 use crate::start::{copy_objects, start_descriptors, start_objects};
 use crate::stock::Stock;
 use places::{At, Descriptor, Object, Part, Place, Recorder, Region, Stretch, Value};
+use shared_pages::Page;
+pub use sharing::SharedWorld;
 use std::alloc::{AllocError, Global};
 use std::marker::Model;
 
@@ -29,7 +33,7 @@ use std::marker::Model;
 /// any other it changes nothing.
 #[derive(Drop)]
 pub struct World {
-    memory: Vec<u8>,
+    memory: Page<u8>,
     objects: Vec<Body>,
     descriptors: Vec<DescriptorState>,
 }
@@ -40,11 +44,11 @@ impl Model for World {
     ghost Value = { WorldState };
 
     ghost view = { λ a. record
-        { memory = a.memory.items; objects = a.objects.items; descriptors = a.descriptors.items } };
+        { memory = a.memory; objects = a.objects.items; descriptors = a.descriptors.items } };
 
     ghost use Rattle.std.specs.Prelude.{◌≡◌, length};
 
-    ghost invariant = { λ a. length a.memory.items ≡ 65536 };
+    ghost invariant = { λ a. length a.memory ≡ 65536 };
 }
 
 impl At for World {
@@ -52,7 +56,7 @@ impl At for World {
 
     fn at(&self, place: Place) -> Option<Value> {
         match place {
-            Place::MemoryByte(address) => match self.memory.get(address as usize) {
+            Place::MemoryByte(address) => match self.memory.as_slice().get(address as usize) {
                 Some(byte) => Some(Value::Byte(*byte)),
                 None => None,
             },
@@ -84,7 +88,7 @@ impl At for World {
 
     fn bytes_in(&self, region: Region) -> Option<&[u8]> {
         match region {
-            Region::Memory => Some(&self.memory),
+            Region::Memory => Some(self.memory.as_slice()),
             Region::File(object) | Region::Durable(object) | Region::Pipe(object) => {
                 match self.objects.get(object as usize) {
                     Some(body) => body.bytes_in(region),
@@ -113,7 +117,9 @@ impl Part for World {
             return;
         }
         match (place, value) {
-            (Place::MemoryByte(address), Value::Byte(byte)) => self.memory[address as usize] = byte,
+            (Place::MemoryByte(address), Value::Byte(byte)) => {
+                self.memory.set(address as usize, byte)
+            }
             (Place::Position(fd), Value::Number(n)) => {
                 self.descriptors[(fd - 3) as usize].position = Some(n)
             }
@@ -151,7 +157,7 @@ impl World {
         ensures { IfOk result (λ world. world ≡ self.now) }
     {
         Ok(World {
-            memory: Vec::from_slice(alloc, &self.memory)?,
+            memory: self.memory.copy(alloc)?,
             objects: copy_objects(alloc, &self.objects)?,
             descriptors: Vec::from_slice(alloc, &self.descriptors)?,
         })
@@ -243,7 +249,7 @@ impl World {
         requires { address + 8 ≤ 65536 }
         ensures { result ≡ number_at self.now address }
     {
-        match self.memory[address as usize..].first_chunk::<8>() {
+        match self.memory.as_slice()[address as usize..].first_chunk::<8>() {
             Some(bytes) => u64::from_le_bytes(*bytes),
             // The address leaves eight bytes of the memory.
             None => unreachable!(),
@@ -255,7 +261,7 @@ impl World {
         ensures value { result.now ≡ self.now.memory }
         ensures size { length result.now ≡ 65536 }
     {
-        &self.memory
+        self.memory.as_slice()
     }
 
     /// Stores bytes in memory. If an allocation fails, the world is unchanged.
@@ -279,7 +285,7 @@ impl World {
         ensures others { notes.old.others ≤ notes.new.others }
     {
         let to = address as usize;
-        let old = &self.memory[to..to + bytes.len()];
+        let old = &self.memory.as_slice()[to..to + bytes.len()];
         note_differing(Region::Memory, address, old, bytes, notes)?;
         overwrite(&mut self.memory, to, bytes);
         Ok(())
@@ -315,7 +321,7 @@ impl World {
             return Ok(());
         };
         let others = &file.bytes()[from..from + count];
-        let old = &self.memory[to..to + count];
+        let old = &self.memory.as_slice()[to..to + count];
         note_differing(Region::Memory, address, old, others, notes)?;
         overwrite(&mut self.memory, to, others);
         Ok(())
@@ -347,7 +353,7 @@ impl World {
         ensures others { notes.old.others ≤ notes.new.others }
     {
         let from = address as usize;
-        let others = &self.memory[from..from + count as usize];
+        let others = &self.memory.as_slice()[from..from + count as usize];
         let Body::File(file) = &mut self.objects[object as usize] else {
             return Ok(());
         };
@@ -469,7 +475,7 @@ impl World {
         ensures room { HasSameRoom notes.old notes.new }
     {
         let at = address as usize;
-        let old = &self.memory[at..at + others.len()];
+        let old = &self.memory.as_slice()[at..at + others.len()];
         note_differing(Region::Memory, address, old, others, notes)
     }
 
@@ -496,7 +502,7 @@ impl World {
         ensures others { notes.old.others ≤ notes.new.others }
     {
         let start = address as usize;
-        let bytes = &self.memory[start..start + count as usize];
+        let bytes = &self.memory.as_slice()[start..start + count as usize];
         let Body::Pipe(pipe) = &mut self.objects[object as usize] else {
             return Ok(());
         };

@@ -171,6 +171,9 @@ impl Backlog {
             → named notes.old.made p ≡ None }
         ensures numbers { notes.old.numbers ≤ notes.new.numbers + 1 }
     {
+        if count == 0 {
+            return;
+        }
         match notes.note_number(Place::BacklogFront, self.front as u64) {
             Ok(()) => self.front += count,
             // The memory is reserved already.

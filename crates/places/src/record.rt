@@ -116,6 +116,7 @@ impl<'a> Changes<'a> {
 }
 
 impl Record {
+    #[inline(always)]
     pub(crate) fn from_parts(packed: Packed, wide: Wide, rest: Kept, summary: u64) -> Record
         requires once { NamesOnce (record_changes packed wide rest) }
         requires summed { Summed summary (record_changes packed wide rest) }

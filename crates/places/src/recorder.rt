@@ -39,7 +39,8 @@ const ROW_SLOTS: usize = 262144;
 /// before it writes a place.
 ///
 /// The first note of a place counts. A caller that cannot handle an allocation failure between two
-/// writes reserves room for its notes first.
+/// writes reserves room for its notes first. The methods that take a large old value are inlined:
+/// each call would copy it.
 pub struct Recorder {
     numbers: Slots<NumberNote>,
     completions: Slots<CompletionNote>,
@@ -196,6 +197,7 @@ impl Recorder {
     ///
     /// A single byte, or a value of another type than its place holds, takes time
     /// linear in the number of notes.
+    #[inline(always)]
     pub fn note(&mut self, place: Place, old: Option<Value>) -> Result<(), AllocError>
         ensures ok { OnOk result (Noted self.old.made self.new.made place old) }
         ensures err { OnErr result (self.new.made ≡ self.old.made) }
@@ -221,6 +223,7 @@ impl Recorder {
         }
     }
 
+    #[inline(always)]
     fn note_rare(&mut self, place: Place, old: Option<Value>) -> Result<(), AllocError>
         ensures ok { OnOk result (Noted self.old.made self.new.made place old) }
         ensures err { OnErr result (self.new.made ≡ self.old.made) }
@@ -241,6 +244,7 @@ impl Recorder {
     }
 
     /// Records the value of a place for which `is_other` holds, or that the place is absent.
+    #[inline(always)]
     fn note_small(&mut self, place: Place, old: Option<Small>) -> Result<(), AllocError>
         requires { is_other place ≡ true }
         ensures ok { OnOk result
@@ -296,6 +300,7 @@ impl Recorder {
     }
 
     /// Records a request, or that it is absent.
+    #[inline(always)]
     pub fn note_row(&mut self, row: u32, old: Option<Row>) -> Result<(), AllocError>
         ensures ok { OnOk result
             (Noted self.old.made self.new.made (Request row) (option_map Requested old)) }

@@ -346,6 +346,9 @@ impl SubRing {
     {
         note_word(notes, Place::SubmissionHead, self.head);
         self.head = self.head.wrapping_add(count);
+        if dropped == 0 {
+            return;
+        }
         note_word(notes, Place::SubmissionDropped, self.dropped);
         self.dropped = self.dropped.wrapping_add(dropped);
     }

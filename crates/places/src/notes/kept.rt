@@ -1,5 +1,5 @@
 //! The rarer kinds of notes, runs of bytes and single places, after a recorder is closed.
-ghost use Rattle.std.specs.Prelude.{◌≡◌, [], true, is_some};
+ghost use Rattle.std.specs.Prelude.{◌≡◌, [], true, is_some, MatchBool};
 ghost use Rattle.places.specs.View.{named};
 ghost use Rattle.places.specs.Runs.{run_changes};
 ghost use Rattle.places.specs.RestOf.{rest_of};
@@ -19,6 +19,14 @@ pub struct Inner {
 }
 
 impl Inner {
+    /// Returns whether there are no notes.
+    pub fn is_empty(&self) -> bool
+        ensures { MatchBool result ((self.now.bytes.runs ≡ []) × (self.now.odd.notes ≡ []))
+            (¬ ((self.now.bytes.runs ≡ []) × (self.now.odd.notes ≡ []))) }
+    {
+        self.bytes.is_empty() && self.odd.is_empty()
+    }
+
     /// Returns how many bytes of memory the notes take, this struct included.
     pub fn kept_bytes(&self) -> usize {
         size_of::<Inner>()

@@ -158,9 +158,11 @@ impl Rest {
         ensures no_odd { self.new.odd ≡ [] }
     {
         if let Some(inner) = &mut self.inner {
-            inner.bytes.close(whole);
-            inner.odd.close(whole);
-            if inner.bytes.is_empty() && inner.odd.is_empty() {
+            if !inner.is_empty() {
+                inner.bytes.close(whole);
+                inner.odd.close(whole);
+            }
+            if inner.is_empty() {
                 inner.bytes.clear();
                 return Kept::new();
             }

@@ -1,6 +1,6 @@
 //! Notes of requests, and of the places that hold neither a number, a byte nor
 //! a completion of the ring.
-ghost use Rattle.std.specs.Prelude.{◌≡◌, ◌∷◌, [], Some, option_map, true, not, is_some, MatchOption, OnOk};
+ghost use Rattle.std.specs.Prelude.{◌≡◌, ◌↔◌, ◌∷◌, [], Some, option_map, true, not, is_some, IsTrue, MatchOption, OnOk};
 ghost use Rattle.entries.specs.declared.row.Row.{Row};
 ghost use Rattle.places.specs.declared.value.Value.TheVariants.{Requested};
 ghost use Rattle.places.specs.declared.place.Place.TheVariants.{Request};
@@ -51,6 +51,7 @@ pub enum RowNote {
 
 impl Small {
     /// Converts a value; returns `None` for a row.
+    #[inline(always)]
     pub fn from_value(value: Value) -> Option<Small>
         ensures { MatchOption result ((row : Row)
             × (value ≡ Requested row)) (λ s. value_of s ≡ value) }
@@ -86,6 +87,7 @@ impl Small {
 
 impl RowNote {
     /// Builds the note of a request.
+    #[inline(always)]
     pub fn new(row: u32, old: Option<Row>) -> RowNote
         ensures { row_change result
             ≡ record { place = Request row; old = option_map Requested old } }
@@ -97,6 +99,7 @@ impl RowNote {
     }
 
     /// Builds the note of another place.
+    #[inline(always)]
     pub fn of_other(place: Place, old: Option<Small>) -> RowNote
         requires { is_other place ≡ true }
         ensures { row_change result ≡ record { place = place; old = option_map value_of old } }
@@ -162,6 +165,17 @@ fn small_value(old: Option<Small>) -> Option<Value>
     match old {
         None => None,
         Some(small) => Some(small.value()),
+    }
+}
+
+// Returns whether `now` is the old value, or both are absent.
+fn is_value(old: &Option<Small>, now: &Option<Value>) -> bool
+    ensures { IsTrue result ↔ (option_map value_of old.now ≡ now.now) }
+{
+    match (old, now) {
+        (None, None) => true,
+        (Some(old), Some(now)) => old.value().equals(now),
+        _ => false,
     }
 }
 
@@ -298,7 +312,9 @@ impl Slotted for RowNote {
                 Some(now) => !now.equals(old),
                 None => differs(self.change(), whole),
             },
-            RowNote::Other(_, _, _) => differs(self.change(), whole),
+            RowNote::Other(kind, index, old) => {
+                !is_value(old, &whole.at(place_of_other(*kind, *index)))
+            }
         }
     }
 }

@@ -96,6 +96,7 @@ impl<N: Slotted + Copy> Slots<N> {
 
     /// Adds a note, unless its place has one. Allocates nothing if there is reserved memory
     /// and a mark for its slot.
+    #[inline(always)]
     pub fn note(&mut self, note: N) -> Result<(), AllocError>
         ensures ok { OnOk result
             (Noted (map N.change self.old.notes) (map N.change self.new.notes) (N.change note).place
@@ -151,8 +152,9 @@ impl<N: Slotted + Copy> Slots<N> {
         ensures once { NamesOnce (map N.change self.old.notes) }
         ensures none { self.new.notes ≡ [] }
     {
-        drop_same_notes(&mut self.notes, whole);
-        take_notes(&mut self.notes)
+        let mut notes = take_notes(&mut self.notes);
+        drop_same_notes(&mut notes, whole);
+        notes
     }
 
     /// Removes all notes. Their memory stays for later ones, unless it is large.
@@ -278,6 +280,18 @@ fn reach(marks: &mut Vec<usize>, slot: usize) -> Result<(), AllocError>
     if slot < marks.len() {
         return Ok(());
     }
+    extend_to(marks, slot)
+}
+
+/// Extends shorter marks. A function of its own, so that the test of the length is inlined.
+#[inline(never)]
+fn extend_to(marks: &mut Vec<usize>, slot: usize) -> Result<(), AllocError>
+    requires { length marks.old.items ≤ slot }
+    ensures reached { OnOk result (slot < length marks.new.items) }
+    ensures longer { length marks.old.items ≤ length marks.new.items }
+    ensures kept { (i : ℕ) → i < length marks.old.items
+        → slice_get marks.new.items i ≡ slice_get marks.old.items i }
+{
     let Some(len) = slot.checked_add(1) else {
         return Err(AllocError);
     };

@@ -62,15 +62,25 @@ impl Wide {
         ensures there { self.old.is_ready ≡ true → IsOk result }
         ensures kept { self.old.is_ready ≡ true → self.new.is_ready ≡ true }
     {
-        if self.kinds.is_none() {
-            let kinds = Kinds {
-                numbers: Vec::new(alloc),
-                completions: Vec::new(alloc),
-                rows: Vec::new(alloc),
-                rest: Kept::new(),
-            };
-            self.kinds = Some(Box::new(alloc, kinds)?);
+        if self.kinds.is_some() {
+            return Ok(());
         }
+        self.allocate(alloc)
+    }
+
+    // A function of its own, so that the test is inlined.
+    #[inline(never)]
+    fn allocate(&mut self, alloc: Global) -> Result<(), AllocError>
+        requires { self.old.is_ready ≡ false }
+        ensures { OnOk result (self.new.is_ready ≡ true) }
+    {
+        let kinds = Kinds {
+            numbers: Vec::new(alloc),
+            completions: Vec::new(alloc),
+            rows: Vec::new(alloc),
+            rest: Kept::new(),
+        };
+        self.kinds = Some(Box::new(alloc, kinds)?);
         Ok(())
     }
 

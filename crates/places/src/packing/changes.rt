@@ -65,6 +65,7 @@ fn put_place(out: &mut Vec<u8>, place: Place, index: u32, shape: u64) -> Result<
 }
 
 /// Appends the change of a place that held a number.
+#[inline(always)]
 pub fn put_number_change(
     out: &mut Vec<u8>,
     place: Place,

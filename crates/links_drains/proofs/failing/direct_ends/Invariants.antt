@@ -1,7 +1,7 @@
-use Rattle.std.proofs.Common.{◌≡◌, ◌-◌, take}
+use Rattle.std.proofs.Common.{◌≡◌, ◌-◌, take, drop}
 use Rattle.links_drains.specs.Batches.{direct_result}
 use Rattle.links_drains.specs.Endings.{endings_from}
 use Rattle.links_drains.proofs.failing.direct_ends.Given as goal
 
 abbrev pub invariant-loop-i : goal.invariant-loop-i
-invariant-loop-i l = l.direct.items ≡ endings_from (λ r row. direct_result l.world l.entries (r - l.first)) l.first (take l.i l.rows)
+invariant-loop-i l = l.direct.items ≡ endings_from (λ r row. direct_result l.world l.entries (r - l.first)) l.first (take l.i (drop l.first l.rows))

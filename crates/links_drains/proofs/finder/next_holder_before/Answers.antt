@@ -1,5 +1,5 @@
-use Rattle.std.proofs.Common.{◌∙◌, sym, arith}
-use Rattle.std.proofs.lemmas.Option.{slice_get-get_or, slice_get_within}
+use Rattle.std.proofs.Common.{◌∙◌, refl, sym, length, arith}
+use Rattle.std.proofs.lemmas.Option.{slice_get_read, slice_get_within}
 use Rattle.links_drains.specs.Units.{is_issued_row}
 use Rattle.links_drains.proofs.Finding.{no_holder_left, holder_found, holder_passed, no_issued}
 use Rattle.links_drains.proofs.NextRows.{next_found, none_found}
@@ -8,11 +8,11 @@ use Rattle.links_drains.proofs.finder.next_holder_before.Goals as goal
 pub loop-at-init : goal.loop-at-init
 loop-at-init c = record { on = omega arith; none = λ r row l k there. absurd (omega (arith, l, k)) }
 
-pub bounds-rows-r : goal.bounds-rows-r
-bounds-rows-r c =
+pub index-requires : goal.index-requires
+index-requires c =
     let next = next_found is_issued_row c.args.rows.now c.args.index.now.issued c.loop-at.at c.in_ok-r.r c.requires.indexed.issued c.in_ok-r.ensures.some in
     let within = slice_get_within c.args.rows.now c.in_ok-r.r next.row next.there in
-    within
+    (omega arith, within)
 
 pub overflow_add-at : goal.overflow_add-at
 overflow_add-at c =
@@ -25,7 +25,7 @@ pub returns-then-holds-clause-some : goal.returns-then-holds-clause-some
 returns-then-holds-clause-some c =
     let next = next_found is_issued_row c.args.rows.now c.args.index.now.issued c.loop-at.at c.in_ok-r.r c.requires.indexed.issued c.in_ok-r.ensures.some in
     let within = slice_get_within c.args.rows.now c.in_ok-r.r next.row next.there in
-    holder_found c.args.fd c.args.rows.now _ c.loop-at.at c.in_ok-r.r _ c.loop-at.invariant.on c.loop-at.invariant.none next (slice_get-get_or c.args.rows.now c.in_ok-r.r _ within) (sym c.holds.ensures ∙ c.if-holds.true)
+    holder_found c.args.fd c.args.rows.now _ c.loop-at.at c.in_ok-r.r _ c.loop-at.invariant.on c.loop-at.invariant.none next (slice_get_read c.args.rows.now (length c.args.rows.now) c.in_ok-r.r c.index.result.now refl within c.index.ensures) (sym c.holds.ensures ∙ c.if-holds.true)
 
 pub returns-in_err-r-clause-none : goal.returns-in_err-r-clause-none
 returns-in_err-r-clause-none c =
@@ -39,7 +39,7 @@ loop-at-preserved c =
     let d = next.after in
     record {
       on = omega (arith, a, d);
-      none = holder_passed c.args.fd c.args.rows.now _ c.loop-at.at c.in_ok-r.r _ c.loop-at.invariant.none next (slice_get-get_or c.args.rows.now c.in_ok-r.r _ within) (sym c.holds.ensures ∙ c.if-holds.false);
+      none = holder_passed c.args.fd c.args.rows.now _ c.loop-at.at c.in_ok-r.r _ c.loop-at.invariant.none next (slice_get_read c.args.rows.now (length c.args.rows.now) c.in_ok-r.r c.index.result.now refl within c.index.ensures) (sym c.holds.ensures ∙ c.if-holds.false);
     }
 
 pub returns-clause-none : goal.returns-clause-none

@@ -3,5 +3,5 @@ use Rattle.model_files.specs.Holders.{holders}
 use Rattle.links_drains.specs.Holding.{holders_of}
 use Rattle.links_drains.proofs.holding.take_all_off.Given as goal
 
-abbrev pub invariant-loop-row : goal.invariant-loop-row
-invariant-loop-row l = (fd : ℕ) → holders l.fn.held fd ≡ holders l.held fd + holders_of (take l.row-index l.rows) fd
+abbrev pub invariant-loop-r : goal.invariant-loop-r
+invariant-loop-r l = (fd : ℕ) → holders l.fn.held fd + holders_of (take l.n l.rows) fd ≡ holders l.held fd + holders_of (take l.r l.rows) fd

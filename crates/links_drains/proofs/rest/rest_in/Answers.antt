@@ -1,28 +1,28 @@
-use Rattle.std.proofs.Common.{◌∙◌, ◌++◌, ◌∷◌, [], sym, ap, true, false}
+use Rattle.std.proofs.Common.{◌∙◌, ◌++◌, ◌∷◌, [], refl, sym, ap, length, arith, true, false}
 use Rattle.std.proofs.lemmas.List.{append-nil}
-use Rattle.std.proofs.lemmas.Option.{slice_get-get_or}
+use Rattle.std.proofs.lemmas.Option.{slice_get_read}
 use Rattle.links_drains.proofs.RestOfUnit.{rest_start, rest_on, rest_past, rest_left, rest_none}
 use Rattle.links_drains.proofs.rest.rest_in.Goals as goal
 use Rattle.links_drains.proofs.rest.rest_in.Goals.{then-is_unfinished+in_ok-push, else-is_unfinished}
 
-pub returns-then-r-rows : goal.returns-then-r-rows
-returns-then-r-rows c = c.new-rest.ensures.items ∙ rest_none c.args.rows.now c.args.r c.if-r-rows.true
+pub returns-then-r-len : goal.returns-then-r-len
+returns-then-r-len c = c.new-rest.ensures.items ∙ rest_none c.args.rows.now c.args.r (omega arith)
 
 pub loop-k-init : goal.loop-k-init
 loop-k-init c = c.new-rest.ensures.items ∙ rest_start c.args.rows.now c.args.r
 
 pub returns-then-other-unit : goal.returns-then-other-unit
 returns-then-other-unit c =
-    c.loop-k.invariant ∙ rest_left c.args.rows.now c.args.r c.loop-k.k _ _ c.requires.chained (slice_get-get_or c.args.rows.now c.args.r _ c.if-r-rows.false)
-    (slice_get-get_or c.args.rows.now c.loop-k.k _ c.loop-k-test.true) c.loop-k.auto.k c.if-other-unit.true
+    c.loop-k.invariant ∙ rest_left c.args.rows.now c.args.r c.loop-k.k _ _ c.requires.chained (slice_get_read c.args.rows.now (length c.args.rows.now) c.args.r c.index.result.now refl (omega arith) c.index.ensures)
+    (slice_get_read c.args.rows.now (length c.args.rows.now) c.loop-k.k c.index-other.result.now refl (omega arith) c.index-other.ensures) c.loop-k.auto.k c.if-other-unit.true
 
 pub loop-k-preserved : goal.loop-k-preserved
 loop-k-preserved c = elim c.if-is_unfinished.branch [
   | then-is_unfinished+in_ok-push w ↦ ap (λ v. v.items) w.rest-is ∙ w.in_ok-push.ensures.items ∙ ap (λ ks. ks ++ c.loop-k.k ∷ []) c.loop-k.invariant
-      ∙ sym (rest_on c.args.rows.now c.args.r c.loop-k.k _ _ true (slice_get-get_or c.args.rows.now c.args.r _ c.if-r-rows.false) (slice_get-get_or c.args.rows.now c.loop-k.k _ c.loop-k-test.true) c.loop-k.auto.k c.if-other-unit.false (sym c.is_unfinished.ensures ∙ w.if-is_unfinished.true))
+      ∙ sym (rest_on c.args.rows.now c.args.r c.loop-k.k _ _ true (slice_get_read c.args.rows.now (length c.args.rows.now) c.args.r c.index.result.now refl (omega arith) c.index.ensures) (slice_get_read c.args.rows.now (length c.args.rows.now) c.loop-k.k c.index-other.result.now refl (omega arith) c.index-other.ensures) c.loop-k.auto.k c.if-other-unit.false (sym c.is_unfinished.ensures ∙ w.if-is_unfinished.true))
   | else-is_unfinished w ↦ ap (λ v. v.items) w.rest-is ∙ c.loop-k.invariant ∙ sym (append-nil _)
-      ∙ sym (rest_on c.args.rows.now c.args.r c.loop-k.k _ _ false (slice_get-get_or c.args.rows.now c.args.r _ c.if-r-rows.false) (slice_get-get_or c.args.rows.now c.loop-k.k _ c.loop-k-test.true) c.loop-k.auto.k c.if-other-unit.false (sym c.is_unfinished.ensures ∙ w.if-is_unfinished.false))
+      ∙ sym (rest_on c.args.rows.now c.args.r c.loop-k.k _ _ false (slice_get_read c.args.rows.now (length c.args.rows.now) c.args.r c.index.result.now refl (omega arith) c.index.ensures) (slice_get_read c.args.rows.now (length c.args.rows.now) c.loop-k.k c.index-other.result.now refl (omega arith) c.index-other.ensures) c.loop-k.auto.k c.if-other-unit.false (sym c.is_unfinished.ensures ∙ w.if-is_unfinished.false))
 ]
 
 pub returns : goal.returns
-returns c = c.loop-k.invariant ∙ rest_past c.args.rows.now c.args.r c.loop-k.k c.loop-k-test.false
+returns c = c.loop-k.invariant ∙ rest_past c.args.rows.now c.args.r c.loop-k.k (omega arith)

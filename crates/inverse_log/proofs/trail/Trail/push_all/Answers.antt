@@ -17,7 +17,7 @@ returns-in-Err-copy_at-clause-refused c =
 pub loop-i-preserved : goal.loop-i-preserved
 loop-i-preserved c =
     let below : c.loop-i.i < length c.args.events.now = omega arith in
-    record {
+    rw c.in_default-copy_at.ensures.same (record {
       pushed = pushed_more c.args.self.now c.loop-i.self c.push.new.self c.args.events.now c.loop-i.i _ _ c.requires.last below c.loop-i.invariant.pushed c.in_default.ensures.accepts c.in_default.ensures.ok refl;
       copied = copied_more c.args.self.now c.loop-i.self c.push.new.self _ _ c.args.every c.loop-i.copies.items c.copy_at.new.copies.items c.loop-i.invariant.copied c.in_default.ensures.ok c.in_default-copy_at.ensures.covers;
-    }
+    })

@@ -12,7 +12,7 @@ pub on_from-requires-clause-state : goal.on_from-requires-clause-state
 on_from-requires-clause-state c =
     let within : c.args.moment ≤ length c.self.inside.trail.events = search rules in
     let below = copy_there c.self.inside.trail.setup c.self.inside.trail.events c.self.inside.kept.every c.self.inside.kept.states c.args.moment c.self.invariant within in
-    c.in_ok-state.ensures ∙ copy_of c.self.inside.trail.setup c.self.inside.trail.events c.self.inside.kept.every c.self.inside.kept.states (c.args.moment / c.self.inside.kept.every) c.state.result.now c.self.invariant below c.state.ensures ∙ ap (moment c.self.inside.trail.setup c.self.inside.trail.events) (sym c.nearest-nearest.ensures.value)
+    copy_of c.self.inside.trail.setup c.self.inside.trail.events c.self.inside.kept.every c.self.inside.kept.states (c.args.moment / c.self.inside.kept.every) c.state-copy.result.now c.self.invariant below c.state-copy.ensures ∙ ap (moment c.self.inside.trail.setup c.self.inside.trail.events) (sym c.nearest-nearest.ensures.value)
 
 pub returns-in_ok-state-clause-ok : goal.returns-in_ok-state-clause-ok
 returns-in_ok-state-clause-ok c =

@@ -1,6 +1,6 @@
-use Rattle.std.proofs.Common.{◌≡◌, ◌-◌, List, ℕ, sym, subst, length, take, arith}
+use Rattle.std.proofs.Common.{◌≡◌, ◌-◌, List, ℕ, refl, sym, subst, length, take, arith}
 use Rattle.std.proofs.lemmas.List.{take_all}
-use Rattle.std.proofs.lemmas.Option.{slice_get-get_or}
+use Rattle.std.proofs.lemmas.Option.{slice_get_read}
 use Rattle.entries.specs.declared.row.Row.{Row}
 use Rattle.links_drains.specs.Finders.{Findable}
 use Rattle.links_drains.proofs.Finding.{findable_pops, place_left}
@@ -8,9 +8,9 @@ use Rattle.links_drains.proofs.finder.Finder.cut.Goals as goal
 
 pub loop-r-init : goal.loop-r-init
 loop-r-init c = record {
-  above = c.requires.within;
+  above = omega (arith, c.requires.within, c.len-r.ensures);
   within = omega arith;
-  findable = let P : List Row → Type 0 = λ xs. Findable xs c.args.self.now in subst P (sym (take_all (length c.args.rows.now) c.args.rows.now (omega arith))) c.requires.findable;
+  findable = let P : List Row → Type 0 = λ xs. Findable xs c.args.self.now in subst P (sym (take_all c.len-r.result c.args.rows.now (omega arith))) c.requires.findable;
 }
 
 pub unlink-requires : goal.unlink-requires
@@ -24,7 +24,7 @@ loop-r-preserved c =
     record {
       above = omega (arith, c.loop-r-test.true);
       within = omega (arith, within);
-      findable = findable_pops c.args.rows.now c.loop-r.r _ c.loop-r.self c.unlink.new.self (omega (arith, c.loop-r-test.true)) within (slice_get-get_or c.args.rows.now (c.loop-r.r - 1) _ (omega (arith, within, c.loop-r-test.true))) c.loop-r.invariant.findable c.unlink.ensures.last c.unlink.ensures.previous c.unlink.ensures.holding;
+      findable = findable_pops c.args.rows.now c.loop-r.r _ c.loop-r.self c.unlink.new.self (omega (arith, c.loop-r-test.true)) within (slice_get_read c.args.rows.now (length c.args.rows.now) (c.loop-r.r - 1) c.index.result.now refl (omega (arith, within, c.loop-r-test.true)) c.index.ensures) c.loop-r.invariant.findable c.unlink.ensures.last c.unlink.ensures.previous c.unlink.ensures.holding;
     }
 
 pub returns : goal.returns

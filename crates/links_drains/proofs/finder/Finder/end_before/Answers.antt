@@ -1,6 +1,6 @@
-use Rattle.std.proofs.Common.{◌≡◌, ◌∙◌, sym, get_or, arith}
+use Rattle.std.proofs.Common.{◌≡◌, ◌∙◌, refl, sym, get_or, length, arith}
 use Rattle.std.proofs.lemmas.List.{get_or_read}
-use Rattle.std.proofs.lemmas.Option.{slice_get-get_or}
+use Rattle.std.proofs.lemmas.Option.{slice_get_read}
 use Rattle.links_drains.proofs.Finding.{no_user_before}
 use Rattle.links_drains.proofs.finder.Finder.end_before.Goals as goal
 
@@ -12,5 +12,5 @@ returns-then-r-len-clause-none c = λ r row low less there. absurd (omega (arith
 
 pub returns-clause-none : goal.returns-clause-none
 returns-clause-none c =
-    let read : c.index.result.now ≡ get_or c.args.self.now.previous.items c.args.r 0 = get_or_read c.args.self.now.previous.items c.args.r c.index.result.now (omega arith) c.index.ensures 0 in
-    no_user_before c.args.rows.now c.args.self.now c.args.user_data c.args.r _ _ c.requires.findable (slice_get-get_or c.args.rows.now c.args.r _ c.requires.within) (sym c.hash_of-other.ensures ∙ c.if-other-hash.false ∙ c.hash_of-hash.ensures) (λ q low less. omega (arith, read, low, less))
+    let read : c.index-2.result.now ≡ get_or c.args.self.now.previous c.args.r 0 = get_or_read c.args.self.now.previous c.args.r c.index-2.result.now (omega arith) c.index-2.ensures 0 in
+    no_user_before c.args.rows.now c.args.self.now c.args.user_data c.args.r _ _ c.requires.findable (slice_get_read c.args.rows.now (length c.args.rows.now) c.args.r c.index.result.now refl c.requires.within c.index.ensures) (sym c.hash_of-other.ensures ∙ c.if-other-hash.false ∙ c.hash_of-hash.ensures) (λ q low less. omega (arith, read, low, less))

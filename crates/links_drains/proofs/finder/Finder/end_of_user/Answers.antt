@@ -8,6 +8,6 @@ returns-then-hash-len-clause-none c = λ r row low less there. absurd (omega (ar
 
 pub returns-clause-none : goal.returns-clause-none
 returns-clause-none c =
-    let read : c.index.result.now ≡ get_or c.args.self.now.last.items c.hash_of-hash.result 0 = get_or_read c.args.self.now.last.items c.hash_of-hash.result c.index.result.now (omega arith) c.index.ensures 0 in
-    let same = ap (λ i. get_or c.args.self.now.last.items i 0) c.hash_of-hash.ensures in
+    let read : c.index.result.now ≡ get_or c.args.self.now.last c.hash_of-hash.result 0 = get_or_read c.args.self.now.last c.hash_of-hash.result c.index.result.now (omega arith) c.index.ensures 0 in
+    let same = ap (λ i. get_or c.args.self.now.last i 0) c.hash_of-hash.ensures in
     no_user c.args.rows.now c.args.self.now c.args.user_data _ _ c.requires (λ r low less. omega (arith, read, same, low, less))

@@ -1,25 +1,23 @@
-use Rattle.std.proofs.Common.{ap, length, arith}
+use Rattle.std.proofs.Common.{arith}
 use Rattle.std.proofs.lemmas.Option.{slice_get_within}
 use Rattle.links_drains.proofs.table.Table.next_holder.Goals as goal
 
 pub overflow_cast-result : goal.overflow_cast-result
 overflow_cast-result c =
     let next = c.in-Some.ensures.some in
-    let within = slice_get_within c.deref.result.now c.in-Some.r next.row next.there in
-    let e = ap length c.deref.ensures.value in
+    let within = slice_get_within c.self.inside.rows c.in-Some.r next.row next.there in
     let most = c.self.invariant.tallied.most in
-    omega (arith, within, e, most)
+    omega (arith, within, most)
 
 pub returns-in-Some-clause-some : goal.returns-in-Some-clause-some
-returns-in-Some-clause-some c = rw (← c.self.view_is) (rw c.deref.ensures.value at c.in-Some.ensures.some)
+returns-in-Some-clause-some c = rw (← c.self.view_is) c.in-Some.ensures.some
 
 pub returns-in-Some-clause-few : goal.returns-in-Some-clause-few
 returns-in-Some-clause-few c =
     let next = c.in-Some.ensures.some in
-    let within = slice_get_within c.deref.result.now c.in-Some.r next.row next.there in
-    let e = ap length c.deref.ensures.value in
+    let within = slice_get_within c.self.inside.rows c.in-Some.r next.row next.there in
     let most = c.self.invariant.tallied.most in
-    omega (arith, within, e, most)
+    omega (arith, within, most)
 
 pub returns-in-None-clause-none : goal.returns-in-None-clause-none
-returns-in-None-clause-none c = rw (← c.self.view_is) (rw c.deref.ensures.value at c.in-None.ensures.none)
+returns-in-None-clause-none c = rw (← c.self.view_is) c.in-None.ensures.none

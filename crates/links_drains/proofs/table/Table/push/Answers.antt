@@ -1,8 +1,10 @@
-use Rattle.std.proofs.Common.{◌≡◌, refl, sym, ◌∙◌, ap, length, [], ◌∷◌, ◌++◌, arith}
+use Rattle.std.proofs.Common.{◌≡◌, refl, sym, ap, length, arith}
 use Rattle.std.specs.Prelude.{None, option_map, slice_get}
 use Rattle.std.proofs.lemmas.Option.{slice_get_past}
 use Rattle.places.specs.declared.value.Value.TheVariants.{Requested}
-use Rattle.places.proofs.Keeping.{keeps_noted}
+use Rattle.places.specs.declared.place.Place.TheVariants.{Request}
+use Rattle.places.proofs.Keeping.{keeps_noted, keeps_unchanged}
+use Rattle.links_drains.specs.Rows.{table_owns, table_seen}
 use Rattle.links_drains.proofs.Indexing.{indexed_push}
 use Rattle.links_drains.proofs.RowsKept.{get-pushed}
 use Rattle.links_drains.proofs.Seen.{seen_push}
@@ -14,43 +16,34 @@ count-requires c = room _ _ c.self.invariant.tallied
 
 pub update-requires : goal.update-requires
 update-requires c =
-    let before = c.deref.ensures.value ∙ c.in_ok-reserve.ensures.items in
-    let after = c.deref-3.ensures.value ∙ c.in_ok-push.ensures.items ∙ ap (λ rows. rows ++ c.args.row ∷ []) c.in_ok-reserve.ensures.items in
-    let count : c.len-r.result ≡ length c.self.inside.rows.items = c.len-r.ensures ∙ c.self.inside.rows.ok.0 in
-    let made = rw before at c.in_ok-make_room.ensures.ok in
-    let indexed = rw before at c.in_ok-make_room.ensures.indexed in
     let on = rw (← c.self.view_is) at c.requires.continues in
-    rw (after, count) (c.args.row, get-pushed c.self.inside.rows.items c.args.row, indexed_push c.self.inside.rows.items c.make_room.new.self c.args.row indexed made on)
+    rw (c.in_ok-push.ensures.ok, c.len-r.ensures) (c.args.row, get-pushed c.self.inside.rows c.args.row, indexed_push c.self.inside.rows c.make_room.new.self c.args.row c.in_ok-make_room.ensures.indexed c.in_ok-make_room.ensures.ok c.in_ok-make_room.ensures.counted on)
 
 pub add-requires-clause-few : goal.add-requires-clause-few
 add-requires-clause-few c =
     let few = rw (← c.self.view_is) at c.requires.room in
-    let count : c.len-r.result ≡ length c.self.inside.rows.items = c.len-r.ensures ∙ c.self.inside.rows.ok.0 in
-    omega (arith, few, count)
+    omega (arith, few, c.len-r.ensures)
 
 pub add-requires-clause-room : goal.add-requires-clause-room
-add-requires-clause-room c =
-    let before = c.deref-2.ensures.value ∙ c.in_ok-reserve.ensures.items in
-    let count : c.len-r.result ≡ length c.self.inside.rows.items = c.len-r.ensures ∙ c.self.inside.rows.ok.0 in
-    let made = rw before at c.in_ok-make_room-2.ensures.ok in
-    rw count made
+add-requires-clause-room c = rw c.len-r.ensures c.in_ok-make_room-2.ensures.ok
 
 pub invariant_of-self-2 : goal.invariant_of-self-2
 invariant_of-self-2 c =
     let few = rw (← c.self.view_is) at c.requires.room in
-    let before = c.deref-2.ensures.value ∙ c.in_ok-reserve.ensures.items in
-    let count : c.len-r.result ≡ length c.self.inside.rows.items = c.len-r.ensures ∙ c.self.inside.rows.ok.0 in
-    let after = c.deref-3.ensures.value ∙ c.in_ok-push.ensures.items ∙ ap (λ rows. rows ++ c.args.row ∷ []) c.in_ok-reserve.ensures.items in
-    rw (c.in_ok-push.ensures.items, c.in_ok-reserve.ensures.items) (record {
+    rw c.in_ok-push.ensures.ok (record {
       tallied = tallied_push _ _ _ _ c.self.invariant.tallied few c.count.ensures;
-      indexed = rw after at c.update.ensures;
-      findable = c.add.ensures c.self.inside.rows.items (sym count) (rw before at c.in_ok-make_room-2.ensures.findable);
+      indexed = rw c.in_ok-push.ensures.ok at c.update.ensures;
+      findable = c.add.ensures c.self.inside.rows (sym c.len-r.ensures) c.in_ok-make_room-2.ensures.findable;
     })
 
 pub returns-clause-keeps : goal.returns-clause-keeps
 returns-clause-keeps c =
-    let items = c.in_ok-reserve.ensures.items in
-    let count : c.len-r.result ≡ length c.self.inside.rows.items = c.len-r.ensures ∙ c.self.inside.rows.ok.0 in
-    let absent : option_map Requested (slice_get c.self.inside.rows.items (length c.self.inside.rows.items)) ≡ None = ap (option_map Requested) (slice_get_past c.self.inside.rows.items (length c.self.inside.rows.items) (omega arith)) in
-    let noted = rw count at c.in_ok-note_row.ensures.ok in
-    rw (← c.self.view_is, c.in_ok-push.ensures.items, items) (keeps_noted _ _ _ _ _ _ _ refl (rw absent noted) (seen_push _ _))
+    let absent : option_map Requested (slice_get c.self.inside.rows (length c.self.inside.rows)) ≡ None = ap (option_map Requested) (slice_get_past c.self.inside.rows (length c.self.inside.rows) (omega arith)) in
+    let noted = rw c.len-r.ensures at c.in_ok-note_row.ensures.ok in
+    rw (← c.self.view_is, c.in_ok-push.ensures.ok) (keeps_noted _ _ _ _ _ _ _ refl (rw absent noted) (seen_push _ _))
+
+pub returns-in_err-push-clause-keeps : goal.returns-in_err-push-clause-keeps
+returns-in_err-push-clause-keeps c =
+    let absent : option_map Requested (slice_get c.self.inside.rows (length c.self.inside.rows)) ≡ None = ap (option_map Requested) (slice_get_past c.self.inside.rows (length c.self.inside.rows) (omega arith)) in
+    let noted = rw c.len-r.ensures at c.in_ok-note_row.ensures.ok in
+    rw (← c.self.view_is, c.in_err-push.ensures.err) (keeps_unchanged table_owns (table_seen c.self.inside.rows) c.args.notes.now.made c.note_row.new.self.made (Request (length c.self.inside.rows)) refl (rw absent noted))

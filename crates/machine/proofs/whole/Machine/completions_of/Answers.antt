@@ -12,5 +12,5 @@ loop-i-preserved c =
     let p : ℕ × ℤ = slice_index_or es c.loop-i.i (0, pos 0) in
     let fits : FitsSigned w32 p.1 = search rules in
     c.in_ok-push.ensures.items ∙ ap (λ cs. cs ++ c.completion_of.result ∷ []) c.loop-i.invariant
-    ∙ completions_more rows (take c.loop-i.i es) p c.row.result c.completion_of.result c.row.ensures (c.completion_of.ensures ∙ ap (λ z. completion_of z c.row.result) (to_z-of_z w32 p.1 fits))
+    ∙ completions_more rows (take c.loop-i.i es) p c.row_ref.result.now c.completion_of.result c.row_ref.ensures (c.completion_of.ensures ∙ ap (λ z. completion_of z c.row_ref.result.now) (to_z-of_z w32 p.1 fits))
     ∙ sym (ap (completions_of rows) (take_more es c.loop-i.i (0, pos 0) c.loop-i-test.true))

@@ -7,8 +7,8 @@ use Rattle.machine.specs.Steps.{completion_of, completions_of, posted}
 use Rattle.machine.proofs.FormedMachines.{completions_more, completions_most, only_ending, room_for_endings}
 use Rattle.machine.proofs.whole.Machine.post_each.Goals as goal
 
-pub row-requires : goal.row-requires
-row-requires c =
+pub row_ref-requires : goal.row_ref-requires
+row_ref-requires c =
     let es = c.args.endings.now in
     let p : ℕ × ℤ = slice_index_or es 0 (0, pos 0) in
     let l = c.if-endings-eq1.true in
@@ -30,7 +30,7 @@ returns-then-endings-eq1-clause-ok c =
     let l = c.if-endings-eq1.true in
     let there : slice_get es 0 ≡ Some p = slice_get-get_or es 0 (0, pos 0) (omega (arith, l)) in
     let one : c.completion_of-completion.result ∷ [] ≡ completions_of m.table es =
-    completions_more m.table [] p c.row.result c.completion_of-completion.result c.row.ensures (c.completion_of-completion.ensures ∙ ap (λ z. completion_of z c.row.result) (to_z-of_z w32 p.1 fits))
+    completions_more m.table [] p c.row_ref.result.now c.completion_of-completion.result c.row_ref.ensures (c.completion_of-completion.ensures ∙ ap (λ z. completion_of z c.row_ref.result.now) (to_z-of_z w32 p.1 fits))
     ∙ sym (ap (completions_of m.table) (only_ending es p l there)) in
     subst (λ (cs : List Cqe). OnOk c.post.result (c.post.new.self ≡ posted m cs)) one c.post.ensures.ok
 

@@ -4,7 +4,7 @@ use Rattle.model_files.proofs.pipe.PipeBuffer.set.Goals as goal
 pub returns-in-PipeByte-Byte-clause-put : goal.returns-in-PipeByte-Byte-clause-put
 returns-in-PipeByte-Byte-clause-put c =
     let there = rw (← c.self.view_is, c.in-PipeByte-Byte.is-0) at c.requires.there in
-    rw (← c.self.view_is, c.in-PipeByte-Byte.is-0, c.in-PipeByte-Byte.is-1) (set_pipe_byte _ _ _ _ (byte_within _ _ there))
+    rw (← c.self.view_is, c.in-PipeByte-Byte.is-0, c.in-PipeByte-Byte.is-1, c.set.ensures) (set_pipe_byte _ _ _ _ (byte_within _ _ there))
 
 pub returns-in-PutCount-Number-clause-put : goal.returns-in-PutCount-Number-clause-put
 returns-in-PutCount-Number-clause-put c = rw (← c.self.view_is, c.in-PutCount-Number.is-0, c.in-PutCount-Number.is-1) (set_put_count _ _ _)

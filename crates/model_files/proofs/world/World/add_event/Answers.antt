@@ -8,7 +8,7 @@ use Rattle.model_files.proofs.world.World.add_event.Goals as goal
 
 pub returns-clause-ok : goal.returns-clause-ok
 returns-clause-ok c =
-    let w : WorldState = record { memory = c.self.inside.memory.items; objects = c.self.inside.objects.items; descriptors = c.self.inside.descriptors.items } in
+    let w : WorldState = record { memory = c.self.inside.memory; objects = c.self.inside.objects.items; descriptors = c.self.inside.descriptors.items } in
     let there : IsSomeAnd (counter_of w c.args.object) (λ n. n + c.args.number < 2 ^ 64) = rw (← c.self.view_is) at c.requires.room in
     let n = c.in-EventFd.counter in
     let found : slice_get w.objects c.args.object ≡ Some (EventFd c.in-EventFd.counter) = found_body counter_in w c.args.object c.index_mut.result.now (some_and (λ n. n + c.args.number < 2 ^ 64) (counter_of w c.args.object) there) c.index_mut.ensures.value ∙ ap Some c.in-EventFd.is in
@@ -16,7 +16,7 @@ returns-clause-ok c =
 
 pub returns-clause-keeps : goal.returns-clause-keeps
 returns-clause-keeps c =
-    let w : WorldState = record { memory = c.self.inside.memory.items; objects = c.self.inside.objects.items; descriptors = c.self.inside.descriptors.items } in
+    let w : WorldState = record { memory = c.self.inside.memory; objects = c.self.inside.objects.items; descriptors = c.self.inside.descriptors.items } in
     let there : IsSomeAnd (counter_of w c.args.object) (λ n. n + c.args.number < 2 ^ 64) = rw (← c.self.view_is) at c.requires.room in
     let n = c.in-EventFd.counter in
     let found : slice_get w.objects c.args.object ≡ Some (EventFd c.in-EventFd.counter) = found_body counter_in w c.args.object c.index_mut.result.now (some_and (λ n. n + c.args.number < 2 ^ 64) (counter_of w c.args.object) there) c.index_mut.ensures.value ∙ ap Some c.in-EventFd.is in

@@ -16,7 +16,7 @@ returns-in_err-note_number-clause-keeps c = rw c.in_err-note_number.ensures.err 
 
 pub index_mut-requires : goal.index_mut-requires
 index_mut-requires c =
-    let w : WorldState = record { memory = c.self.inside.memory.items; objects = c.self.inside.objects.items; descriptors = c.self.inside.descriptors.items } in
+    let w : WorldState = record { memory = c.self.inside.memory; objects = c.self.inside.objects.items; descriptors = c.self.inside.descriptors.items } in
     let there : IsSome (counter_of w c.args.object) = rw (← c.self.view_is) at c.requires.counter in
     let found : slice_get w.objects c.args.object ≡ Some (EventFd c.in-EventFd.counter) = found_body counter_in w c.args.object c.index.result.now there c.index.ensures ∙ ap Some c.in-EventFd.is in
     let within = slice_get_within w.objects c.args.object (EventFd c.in-EventFd.counter) found in
@@ -24,17 +24,17 @@ index_mut-requires c =
 
 pub returns-clause-ok : goal.returns-clause-ok
 returns-clause-ok c =
-    let w : WorldState = record { memory = c.self.inside.memory.items; objects = c.self.inside.objects.items; descriptors = c.self.inside.descriptors.items } in
+    let w : WorldState = record { memory = c.self.inside.memory; objects = c.self.inside.objects.items; descriptors = c.self.inside.descriptors.items } in
     let there : IsSome (counter_of w c.args.object) = rw (← c.self.view_is) at c.requires.counter in
     let found : slice_get w.objects c.args.object ≡ Some (EventFd c.in-EventFd.counter) = found_body counter_in w c.args.object c.index.result.now there c.index.ensures ∙ ap Some c.in-EventFd.is in
-    rw (← c.self.view_is) (cleared_is w c.args.object c.args.address c.in-EventFd.counter c.to_le_bytes-bytes.result c.overwrite.new.bytes.items found c.to_le_bytes-bytes.ensures c.overwrite.ensures.next)
+    rw (← c.self.view_is) (cleared_is w c.args.object c.args.address c.in-EventFd.counter c.to_le_bytes-bytes.result c.overwrite.new.bytes found c.to_le_bytes-bytes.ensures c.overwrite.ensures.next)
 
 pub returns-clause-keeps : goal.returns-clause-keeps
 returns-clause-keeps c =
-    let w : WorldState = record { memory = c.self.inside.memory.items; objects = c.self.inside.objects.items; descriptors = c.self.inside.descriptors.items } in
+    let w : WorldState = record { memory = c.self.inside.memory; objects = c.self.inside.objects.items; descriptors = c.self.inside.descriptors.items } in
     let there : IsSome (counter_of w c.args.object) = rw (← c.self.view_is) at c.requires.counter in
     let found : slice_get w.objects c.args.object ≡ Some (EventFd c.in-EventFd.counter) = found_body counter_in w c.args.object c.index.result.now there c.index.ensures ∙ ap Some c.in-EventFd.is in
     let room : c.args.address + 8 ≤ length w.memory = omega (arith, c.requires.in_memory, c.self.invariant) in
     let size : length c.to_le_bytes-bytes.result ≡ 8 = ap length c.to_le_bytes-bytes.ensures in
     rw (← c.self.view_is)
-    (keeps_cleared w c.args.object c.args.address c.in-EventFd.counter c.to_le_bytes-bytes.result c.overwrite.new.bytes.items _ _ _ found (omega (arith, size, room)) (rw (← c.self.view_is) at c.in_ok-note_memory.ensures.among) (rw (← c.self.view_is) at c.in_ok-note_memory.ensures.noted) c.in_ok-note_number.ensures.ok c.overwrite.ensures.next)
+    (keeps_cleared w c.args.object c.args.address c.in-EventFd.counter c.to_le_bytes-bytes.result c.overwrite.new.bytes _ _ _ found (omega (arith, size, room)) (rw (← c.self.view_is) at c.in_ok-note_memory.ensures.among) (rw (← c.self.view_is) at c.in_ok-note_memory.ensures.noted) c.in_ok-note_number.ensures.ok c.overwrite.ensures.next)

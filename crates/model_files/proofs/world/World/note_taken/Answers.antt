@@ -27,7 +27,7 @@ returns-in_err-note_number-clause-keeps c = rw c.in_err-note_number.ensures.err 
 
 pub returns-clause-keeps : goal.returns-clause-keeps
 returns-clause-keeps c =
-    let w : WorldState = record { memory = c.self.inside.memory.items; objects = c.self.inside.objects.items; descriptors = c.self.inside.descriptors.items } in
+    let w : WorldState = record { memory = c.self.inside.memory; objects = c.self.inside.objects.items; descriptors = c.self.inside.descriptors.items } in
     let there : IsSomeAnd (pipe_of w c.args.object) (GivesOut c.args.count) = rw (← c.self.view_is) at c.requires.there in
     let found : slice_get w.objects c.args.object ≡ Some (Pipe c.in-Pipe.pipe) = found_body pipe_in w c.args.object c.index.result.now (some_and (GivesOut c.args.count) (pipe_of w c.args.object) there) c.index.ensures ∙ ap Some c.in-Pipe.is in
     let room : c.args.address + c.args.count ≤ length w.memory = omega (arith, c.requires.in_memory, c.self.invariant) in
@@ -40,7 +40,7 @@ returns-clause-keeps c =
 
 pub returns-clause-noted : goal.returns-clause-noted
 returns-clause-noted c =
-    let w : WorldState = record { memory = c.self.inside.memory.items; objects = c.self.inside.objects.items; descriptors = c.self.inside.descriptors.items } in
+    let w : WorldState = record { memory = c.self.inside.memory; objects = c.self.inside.objects.items; descriptors = c.self.inside.descriptors.items } in
     let there : IsSomeAnd (pipe_of w c.args.object) (GivesOut c.args.count) = rw (← c.self.view_is) at c.requires.there in
     let found : slice_get w.objects c.args.object ≡ Some (Pipe c.in-Pipe.pipe) = found_body pipe_in w c.args.object c.index.result.now (some_and (GivesOut c.args.count) (pipe_of w c.args.object) there) c.index.ensures ∙ ap Some c.in-Pipe.is in
     let room : c.args.address + c.args.count ≤ length w.memory = omega (arith, c.requires.in_memory, c.self.invariant) in

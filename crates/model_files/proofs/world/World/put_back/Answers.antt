@@ -10,7 +10,7 @@ use Rattle.model_files.proofs.world.World.put_back.Goals as goal
 
 pub returns-clause-put : goal.returns-clause-put
 returns-clause-put c =
-    let w : WorldState = record { memory = c.self.inside.memory.items; objects = c.self.inside.objects.items; descriptors = c.self.inside.descriptors.items } in
+    let w : WorldState = record { memory = c.self.inside.memory; objects = c.self.inside.objects.items; descriptors = c.self.inside.descriptors.items } in
     let none : object_in (place_in c.args.stretch.region c.args.stretch.start) ≡ None = ap object_in (sym c.place.ensures) ∙ sym c.object_in.ensures ∙ c.in_default.is in
     let m : c.args.stretch.region ≡ Memory = is_memory c.args.stretch.region c.args.stretch.start none in
     let present = rw (← c.self.view_is, m) at c.requires.present in

@@ -9,14 +9,14 @@ use Rattle.model_files.proofs.world.World.sync.Goals as goal
 
 pub returns-clause-ok : goal.returns-clause-ok
 returns-clause-ok c =
-    let w : WorldState = record { memory = c.self.inside.memory.items; objects = c.self.inside.objects.items; descriptors = c.self.inside.descriptors.items } in
+    let w : WorldState = record { memory = c.self.inside.memory; objects = c.self.inside.objects.items; descriptors = c.self.inside.descriptors.items } in
     let there : IsSome (file_of w c.args.object) = rw (← c.self.view_is) at c.requires.file in
     let found : slice_get w.objects c.args.object ≡ Some (File c.in-File.file) = found_body file_in w c.args.object c.index_mut.result.now there c.index_mut.ensures.value ∙ ap Some c.in-File.is in
     rw (← c.self.view_is) (on_ok_weaker c.sync_noted.result (λ e. changed_body (on_file synced) w c.args.object (File c.in-File.file) (File c.sync_noted.new.self) found (ap File e)) c.sync_noted.ensures.ok)
 
 pub returns-clause-keeps : goal.returns-clause-keeps
 returns-clause-keeps c =
-    let w : WorldState = record { memory = c.self.inside.memory.items; objects = c.self.inside.objects.items; descriptors = c.self.inside.descriptors.items } in
+    let w : WorldState = record { memory = c.self.inside.memory; objects = c.self.inside.objects.items; descriptors = c.self.inside.descriptors.items } in
     let there : IsSome (file_of w c.args.object) = rw (← c.self.view_is) at c.requires.file in
     let found : slice_get w.objects c.args.object ≡ Some (File c.in-File.file) = found_body file_in w c.args.object c.index_mut.result.now there c.index_mut.ensures.value ∙ ap Some c.in-File.is in
     rw (← c.self.view_is) (keeps_object w c.args.object (File c.in-File.file) (File c.sync_noted.new.self) _ _ found c.sync_noted.ensures.keeps)

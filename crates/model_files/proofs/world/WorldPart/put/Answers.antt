@@ -11,7 +11,7 @@ use Rattle.model_files.proofs.world.WorldPart.put.Goals as goal
 
 pub set-requires : goal.set-requires
 set-requires c =
-    let w : WorldState = record { memory = c.self.inside.memory.items; objects = c.self.inside.objects.items; descriptors = c.self.inside.descriptors.items } in
+    let w : WorldState = record { memory = c.self.inside.memory; objects = c.self.inside.objects.items; descriptors = c.self.inside.descriptors.items } in
     let asked : CanPut (world_seen w) c.args.place c.in-Some.value = rw (← c.self.view_is, c.in-Some.is) at c.requires in
     let owner : object_in c.args.place ≡ Some c.in-Some-object_in.object = sym c.in-Some-object_in.ensures in
     let found = body_there w c.in-Some-object_in.object c.index_mut.result.now c.args.place owner asked.there c.index_mut.ensures.value in
@@ -19,7 +19,7 @@ set-requires c =
 
 pub returns-in-Some-object_in-clause-put : goal.returns-in-Some-object_in-clause-put
 returns-in-Some-object_in-clause-put c =
-    let w : WorldState = record { memory = c.self.inside.memory.items; objects = c.self.inside.objects.items; descriptors = c.self.inside.descriptors.items } in
+    let w : WorldState = record { memory = c.self.inside.memory; objects = c.self.inside.objects.items; descriptors = c.self.inside.descriptors.items } in
     let asked : CanPut (world_seen w) c.args.place c.in-Some.value = rw (← c.self.view_is, c.in-Some.is) at c.requires in
     let owner : object_in c.args.place ≡ Some c.in-Some-object_in.object = sym c.in-Some-object_in.ensures in
     let found = body_there w c.in-Some-object_in.object c.index_mut.result.now c.args.place owner asked.there c.index_mut.ensures.value in
@@ -28,30 +28,29 @@ returns-in-Some-object_in-clause-put c =
 
 pub returns-in-Some-object_in-clause-setup : goal.returns-in-Some-object_in-clause-setup
 returns-in-Some-object_in-clause-setup c =
-    let w : WorldState = record { memory = c.self.inside.memory.items; objects = c.self.inside.objects.items; descriptors = c.self.inside.descriptors.items } in
+    let w : WorldState = record { memory = c.self.inside.memory; objects = c.self.inside.objects.items; descriptors = c.self.inside.descriptors.items } in
     let asked : CanPut (world_seen w) c.args.place c.in-Some.value = rw (← c.self.view_is, c.in-Some.is) at c.requires in
     let owner : object_in c.args.place ≡ Some c.in-Some-object_in.object = sym c.in-Some-object_in.ensures in
     let found = body_there w c.in-Some-object_in.object c.index_mut.result.now c.args.place owner asked.there c.index_mut.ensures.value in
     rw (← c.self.view_is) (one_setup_body w c.in-Some-object_in.object c.index_mut.result.now c.set.new.self found c.set.ensures.kind)
 
-pub index_mut-requires-in-MemoryByte-Byte : goal.index_mut-requires-in-MemoryByte-Byte
-index_mut-requires-in-MemoryByte-Byte c =
-    let w : WorldState = record { memory = c.self.inside.memory.items; objects = c.self.inside.objects.items; descriptors = c.self.inside.descriptors.items } in
+pub set-requires-in-MemoryByte-Byte : goal.set-requires-in-MemoryByte-Byte
+set-requires-in-MemoryByte-Byte c =
+    let w : WorldState = record { memory = c.self.inside.memory; objects = c.self.inside.objects.items; descriptors = c.self.inside.descriptors.items } in
     let asked : CanPut (world_seen w) c.args.place c.in-Some.value = rw (← c.self.view_is, c.in-Some.is) at c.requires in
     let there = rw c.in-MemoryByte-Byte.is-0 at asked.there in
-    let within : c.in-MemoryByte-Byte.address < length w.memory = byte_within w.memory c.in-MemoryByte-Byte.address there in
-    omega (arith, c.self.inside.memory.ok.0, within)
+    byte_within w.memory c.in-MemoryByte-Byte.address there
 
 pub returns-in-MemoryByte-Byte-clause-put : goal.returns-in-MemoryByte-Byte-clause-put
 returns-in-MemoryByte-Byte-clause-put c =
-    let w : WorldState = record { memory = c.self.inside.memory.items; objects = c.self.inside.objects.items; descriptors = c.self.inside.descriptors.items } in
+    let w : WorldState = record { memory = c.self.inside.memory; objects = c.self.inside.objects.items; descriptors = c.self.inside.descriptors.items } in
     let asked : CanPut (world_seen w) c.args.place c.in-Some.value = rw (← c.self.view_is, c.in-Some.is) at c.requires in
     let there = rw c.in-MemoryByte-Byte.is-0 at asked.there in
-    rw (← c.self.view_is, c.in-Some.is, c.in-MemoryByte-Byte.is-0, c.in-MemoryByte-Byte.is-1) (put_memory w c.in-MemoryByte-Byte.address c.in-MemoryByte-Byte.byte (byte_within w.memory c.in-MemoryByte-Byte.address there))
+    rw (← c.self.view_is, c.in-Some.is, c.in-MemoryByte-Byte.is-0, c.in-MemoryByte-Byte.is-1, c.set-in-MemoryByte-Byte.ensures) (put_memory w c.in-MemoryByte-Byte.address c.in-MemoryByte-Byte.byte (byte_within w.memory c.in-MemoryByte-Byte.address there))
 
 pub index_mut-requires-in-Position-Number : goal.index_mut-requires-in-Position-Number
 index_mut-requires-in-Position-Number c =
-    let w : WorldState = record { memory = c.self.inside.memory.items; objects = c.self.inside.objects.items; descriptors = c.self.inside.descriptors.items } in
+    let w : WorldState = record { memory = c.self.inside.memory; objects = c.self.inside.objects.items; descriptors = c.self.inside.descriptors.items } in
     let asked : CanPut (world_seen w) c.args.place c.in-Some.value = rw (← c.self.view_is, c.in-Some.is) at c.requires in
     let there : IsSome (world_seen w (Position c.in-Position-Number.fd)) = rw c.in-Position-Number.is-0 at asked.there in
     let within : c.in-Position-Number.fd - 3 < length w.descriptors = within_there w c.in-Position-Number.fd (positioned_there w c.in-Position-Number.fd there) in
@@ -59,7 +58,7 @@ index_mut-requires-in-Position-Number c =
 
 pub index_mut-requires-in-OpenMark-Number : goal.index_mut-requires-in-OpenMark-Number
 index_mut-requires-in-OpenMark-Number c =
-    let w : WorldState = record { memory = c.self.inside.memory.items; objects = c.self.inside.objects.items; descriptors = c.self.inside.descriptors.items } in
+    let w : WorldState = record { memory = c.self.inside.memory; objects = c.self.inside.objects.items; descriptors = c.self.inside.descriptors.items } in
     let asked : CanPut (world_seen w) c.args.place c.in-Some.value = rw (← c.self.view_is, c.in-Some.is) at c.requires in
     let there : IsSome (world_seen w (OpenMark c.in-OpenMark-Number.fd)) = rw c.in-OpenMark-Number.is-0 at asked.there in
     let within : c.in-OpenMark-Number.fd - 3 < length w.descriptors = within_there w c.in-OpenMark-Number.fd (marked_there w c.in-OpenMark-Number.fd there) in
@@ -67,7 +66,7 @@ index_mut-requires-in-OpenMark-Number c =
 
 pub returns-in-Position-Number-clause-put : goal.returns-in-Position-Number-clause-put
 returns-in-Position-Number-clause-put c =
-    let w : WorldState = record { memory = c.self.inside.memory.items; objects = c.self.inside.objects.items; descriptors = c.self.inside.descriptors.items } in
+    let w : WorldState = record { memory = c.self.inside.memory; objects = c.self.inside.objects.items; descriptors = c.self.inside.descriptors.items } in
     let asked : CanPut (world_seen w) c.args.place c.in-Some.value = rw (← c.self.view_is, c.in-Some.is) at c.requires in
     let there : IsSome (world_seen w (Position c.in-Position-Number.fd)) = rw c.in-Position-Number.is-0 at asked.there in
     rw (← c.self.view_is, c.in-Some.is, c.in-Position-Number.is-0, c.in-Position-Number.is-1)
@@ -75,7 +74,7 @@ returns-in-Position-Number-clause-put c =
 
 pub returns-in-Position-Number-clause-setup : goal.returns-in-Position-Number-clause-setup
 returns-in-Position-Number-clause-setup c =
-    let w : WorldState = record { memory = c.self.inside.memory.items; objects = c.self.inside.objects.items; descriptors = c.self.inside.descriptors.items } in
+    let w : WorldState = record { memory = c.self.inside.memory; objects = c.self.inside.objects.items; descriptors = c.self.inside.descriptors.items } in
     let asked : CanPut (world_seen w) c.args.place c.in-Some.value = rw (← c.self.view_is, c.in-Some.is) at c.requires in
     let there : IsSome (world_seen w (Position c.in-Position-Number.fd)) = rw c.in-Position-Number.is-0 at asked.there in
     let d = c.index_mut-in-Position-Number.result.now in
@@ -85,7 +84,7 @@ returns-in-Position-Number-clause-setup c =
 
 pub returns-in-OpenMark-Number-clause-put : goal.returns-in-OpenMark-Number-clause-put
 returns-in-OpenMark-Number-clause-put c =
-    let w : WorldState = record { memory = c.self.inside.memory.items; objects = c.self.inside.objects.items; descriptors = c.self.inside.descriptors.items } in
+    let w : WorldState = record { memory = c.self.inside.memory; objects = c.self.inside.objects.items; descriptors = c.self.inside.descriptors.items } in
     let asked : CanPut (world_seen w) c.args.place c.in-Some.value = rw (← c.self.view_is, c.in-Some.is) at c.requires in
     let there : IsSome (world_seen w (OpenMark c.in-OpenMark-Number.fd)) = rw c.in-OpenMark-Number.is-0 at asked.there in
     let fits = rw (c.in-OpenMark-Number.is-0, c.in-OpenMark-Number.is-1) at asked.fits in
@@ -94,7 +93,7 @@ returns-in-OpenMark-Number-clause-put c =
 
 pub returns-in-OpenMark-Number-clause-setup : goal.returns-in-OpenMark-Number-clause-setup
 returns-in-OpenMark-Number-clause-setup c =
-    let w : WorldState = record { memory = c.self.inside.memory.items; objects = c.self.inside.objects.items; descriptors = c.self.inside.descriptors.items } in
+    let w : WorldState = record { memory = c.self.inside.memory; objects = c.self.inside.objects.items; descriptors = c.self.inside.descriptors.items } in
     let asked : CanPut (world_seen w) c.args.place c.in-Some.value = rw (← c.self.view_is, c.in-Some.is) at c.requires in
     let there : IsSome (world_seen w (OpenMark c.in-OpenMark-Number.fd)) = rw c.in-OpenMark-Number.is-0 at asked.there in
     let d = c.index_mut-in-OpenMark-Number.result.now in

@@ -1,8 +1,8 @@
 use Rattle.std.proofs.Common.{◌≡◌, ◌++◌, length}
-use Rattle.links_drains.proofs.finder.copy_numbers.Given as goal
+use Rattle.shared_pages.proofs.pieces.copied.Given as goal
 
 abbrev pub invariant-loop-left : goal.invariant-loop-left
-invariant-loop-left l = l.copy.items ++ l.left ≡ l.numbers
+invariant-loop-left g l = l.copy.items ++ l.left ≡ l.elements
 
 abbrev pub decreases-loop-left : goal.decreases-loop-left
-decreases-loop-left l = length l.left
+decreases-loop-left g l = length l.left

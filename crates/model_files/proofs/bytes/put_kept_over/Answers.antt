@@ -4,7 +4,7 @@ use Rattle.std.proofs.lemmas.Option.{slice_get-get_or}
 use Rattle.places.specs.Stretched.{kept_of}
 use Rattle.places.proofs.MaskedLemmas.{length_kept}
 use Rattle.model_files.proofs.PuttingOver.{PuttingOver, putting_from, putting_on, putting_all, far_enough}
-use Rattle.model_files.proofs.bytes.put_over_slice.Goals as goal
+use Rattle.model_files.proofs.bytes.put_kept_over.Goals as goal
 
 pub loop-i-init : goal.loop-i-init
 loop-i-init c = putting_from _ _ _ _ (omega (arith, c.min-from.ensures))
@@ -13,9 +13,10 @@ pub loop-i-preserved : goal.loop-i-preserved
 loop-i-preserved c =
     let e : c.min-from.result ≡ c.args.stretch.now.start = omega (arith, c.min-from.ensures, c.min-n.ensures) in
     let w : c.min-from.result + c.loop-i.i < length c.loop-i.bytes = let a = c.loop-i.invariant.len in omega (arith, c.min-from.ensures, c.min-n.ensures) in
-    subst (λ (v : ℕ). PuttingOver c.args.bytes.now (slice_set c.loop-i.bytes (c.min-from.result + c.loop-i.i) v) c.args.stretch.now.start (kept_of c.args.stretch.now) (c.min-from.result + (c.loop-i.i + 1))) (sym c.unwrap_or.ensures)
+    rw c.set.ensures (
+    subst (λ (v : ℕ). PuttingOver c.args.bytes.now (slice_set c.loop-i.bytes (c.min-from.result + c.loop-i.i) v) c.args.stretch.now.start (kept_of c.args.stretch.now) (c.min-from.result + (c.loop-i.i + 1))) (sym (rw c.as_slice.ensures at c.unwrap_or.ensures))
     (putting_on c.args.bytes.now c.loop-i.bytes (kept_of c.args.stretch.now) c.args.stretch.now.start c.min-from.result c.loop-i.i (slice_index_or c.loop-i.bytes (c.min-from.result + c.loop-i.i) 0) c.kept.result
-    c.loop-i.invariant e w c.kept.ensures (slice_get-get_or c.loop-i.bytes (c.min-from.result + c.loop-i.i) 0 w))
+    c.loop-i.invariant e w c.kept.ensures (slice_get-get_or c.loop-i.bytes (c.min-from.result + c.loop-i.i) 0 w)))
 
 pub returns-clause-over : goal.returns-clause-over
 returns-clause-over c =

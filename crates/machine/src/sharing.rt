@@ -1,0 +1,106 @@
+//! Copies of the machine that share what neither has written since.
+ghost use Rattle.std.specs.Prelude.{◌≡◌, IfOk};
+ghost use Rattle.machine.specs.Sharing.{machine_in};
+
+use crate::threads::Threads;
+use crate::whole::Machine;
+use links_drains::{SharedTable, Table};
+use model_files::{SharedWorld, World};
+use overflow::Backlog;
+use ring_words::{ComRing, SubRing};
+use sqpoll::Poller;
+use std::alloc::{AllocError, Global};
+
+/// A copy of a machine. It shares the requests and the bytes of the memory, the files and the
+/// pipes. The other parts are small, and are its own.
+#[derive(Drop)]
+pub struct SharedMachine {
+    pub submissions: SubRing,
+    pub completions: ComRing,
+    pub backlog: Backlog,
+    pub world: SharedWorld,
+    pub table: SharedTable,
+    pub poller: Option<Poller>,
+    pub submit_all: bool,
+    pub threads: Threads,
+    pub clock: u64,
+    pub counted: u32,
+}
+
+impl Machine {
+    /// Returns a copy. Copies only pages that were written since the last shared copy.
+    pub(crate) fn share(&mut self, alloc: Global) -> Result<SharedMachine, AllocError>
+        ensures ok { IfOk result (λ copy. machine_in copy ≡ self.old) }
+        ensures same { self.new ≡ self.old }
+    {
+        Ok(SharedMachine {
+            submissions: self.submissions.copy(alloc)?,
+            completions: self.completions.copy(alloc)?,
+            backlog: self.backlog.copy(alloc)?,
+            world: self.world.share(alloc)?,
+            table: self.table.share(alloc)?,
+            poller: self.poller,
+            submit_all: self.submit_all,
+            threads: self.threads.copy(alloc)?,
+            clock: self.clock,
+            counted: self.counted,
+        })
+    }
+}
+
+impl SharedMachine {
+    /// Returns the machine, with storage of its own.
+    pub(crate) fn to_machine(&self, alloc: Global) -> Result<Machine, AllocError>
+        ensures { IfOk result (λ machine. machine ≡ machine_in self.now) }
+    {
+        self.build(alloc, None, None)
+    }
+
+    /// Returns the machine, in the storage of `room` as far as that fits.
+    pub(crate) fn restore(&self, alloc: Global, room: Machine) -> Result<Machine, AllocError>
+        ensures { IfOk result (λ machine. machine ≡ machine_in self.now) }
+    {
+        let (world, table) = large_parts(room);
+        self.build(alloc, Some(world), Some(table))
+    }
+
+    // Returns the machine, in the storage of these parts as far as that fits.
+    fn build(
+        &self,
+        alloc: Global,
+        world: Option<World>,
+        table: Option<Table>,
+    ) -> Result<Machine, AllocError>
+        ensures { IfOk result (λ machine. machine ≡ machine_in self.now) }
+    {
+        Ok(Machine {
+            submissions: self.submissions.copy(alloc)?,
+            completions: self.completions.copy(alloc)?,
+            backlog: self.backlog.copy(alloc)?,
+            world: self.world.restore(alloc, world)?,
+            table: self.table.restore(alloc, table)?,
+            poller: self.poller,
+            submit_all: self.submit_all,
+            threads: self.threads.copy(alloc)?,
+            clock: self.clock,
+            counted: self.counted,
+        })
+    }
+}
+
+// Takes the large parts of a machine, and drops the others.
+fn large_parts(machine: Machine) -> (World, Table) {
+    let Machine {
+        submissions: _submissions,
+        completions: _completions,
+        backlog: _backlog,
+        world,
+        table,
+        poller: _,
+        submit_all: _,
+        threads: _threads,
+        clock: _,
+        counted: _,
+    } = machine;
+    (world, table)
+}
