@@ -156,11 +156,3 @@ module _ (rows : List Row) (index : Index) (i : Indexed rows index) (guards : Gu
         | inr own ↦ both_ways _ (drains_not drain) own
         | inl its ↦ both_ways _ (none x.unit low) (i.barriers x.unit ∙ and_from _ _ its (any_of_true is_open rows k x x.unit h refl u))
       ])
-
--- A request that isn't queued, or is a linked timeout, may not be issued.
-pub not_eligible : (rows : List Row) (r : ℕ) (row : Row) → slice_get rows r ≡ Some row → (is_queued row.phase ≡ true → is_guard row ≡ true) → false ≡ is_eligible rows r
-not_eligible rows r row here why = sym (rw here (by (is_queued row.phase) (is_guard row) _ why))
-  where
-    by : (a b c : Bool) → (a ≡ true → b ≡ true) → (a && (not b && c)) ≡ false
-    by false b c w = refl
-    by true b c w = rw (w refl) refl
