@@ -1,22 +1,10 @@
 -- A cancellation completes unfinished requests, by ascending number.
 use Rattle.std.proofs.Common.{◌≡◌, ℕ, zero, suc, Bool, true, false, not, cond, refl, sym, ◌∙◌, ap, subst, List, [], ◌∷◌, ◌++◌, length, map, ◌+◌, ◌<◌, ◌≤◌, le_refl, arith}
-use Rattle.std.specs.Prelude.{Option, Some, slice_get, ◌==◌, ◌&&◌, nat_lt, if◌then◌else◌}
-use Rattle.std.specs.List.{filter, enumerate_from}
-use Rattle.std.proofs.lemmas.Option.{slice_get_within}
-use Rattle.entries.specs.declared.entry.Sqe.{Sqe}
-use Rattle.entries.specs.declared.row.Row.{Row}
-use Rattle.entries.specs.declared.row.Phase.{Phase}
-use Rattle.model_files.specs.Worlds.{WorldState}
-use Rattle.opcodes.specs.Outcomes.{is_running}
-use Rattle.links_drains.specs.Endings.{Ending, ecanceled, Direct}
-use Rattle.links_drains.specs.Links.{is_guard}
-use Rattle.links_drains.specs.Phases.{is_ended, is_issued, is_unfinished}
-use Rattle.links_drains.proofs.Chains.{enumerated}
+use Rattle.machine.proofs.Common.{Option, Some, slice_get, ◌==◌, ◌&&◌, nat_lt, if◌then◌else◌, filter, enumerate_from, slice_get_within, Sqe, Row, Phase, WorldState, is_running, Ending, ecanceled, Direct, is_guard, is_ended, is_issued, is_unfinished, enumerated, Verdict, on_found, verdict_of, canceled, ending_with}
 use Rattle.timeouts_cancel.specs.declared.matching.Key.{Key}
 use Rattle.timeouts_cancel.specs.declared.matching.Found.TheVariants.{Running, Waiting}
 use Rattle.timeouts_cancel.specs.Matches.{fits_key, is_match, matches_of, found_by, found_first, is_waiting_match, waiting_by}
 use Rattle.timeouts_cancel.proofs.Severing.{both}
-use Rattle.machine.specs.Cancels.{Verdict, on_found, verdict_of, canceled, ending_with}
 
 -- ---- Sorted completions
 

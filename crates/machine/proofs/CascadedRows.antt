@@ -1,26 +1,10 @@
 -- The requests of a cascade, and the machine after it.
-use Rattle.std.proofs.Common.{◌≡◌, ℕ, ℤ, zero, suc, Bool, true, false, cond, refl, sym, ◌∙◌, ap, subst, List, [], ◌∷◌, length, ◌+◌, ◌*◌, ◌<◌, ◌≤◌, ◌⊎◌, inl, inr, arith}
-use Rattle.std.proofs.lemmas.Bool.{eq-eqb}
-use Rattle.std.specs.Prelude.{Option, Some, None, option_map, slice_get, not}
-use Rattle.std.specs.Option.{option_map_or}
-use Rattle.entries.specs.declared.row.Row.{Row}
-use Rattle.entries.specs.declared.row.Phase.TheVariants.{Ended}
-use Rattle.model_files.specs.Worlds.{PutsWithin}
-use Rattle.opcodes.proofs.Counting.{puts_more}
-use Rattle.links_drains.specs.Endings.{ended_by, result_in, Direct}
+use Rattle.machine.proofs.Common.{◌≡◌, ℕ, ℤ, zero, suc, Bool, true, false, cond, refl, sym, ◌∙◌, ap, subst, List, [], ◌∷◌, length, ◌+◌, ◌*◌, ◌<◌, ◌≤◌, ◌⊎◌, inl, inr, arith, eq-eqb, Option, Some, None, option_map, slice_get, not, option_map_or, Row, Ended, PutsWithin, puts_more, ended_by, result_in, Direct, is_guard, map_numbered, is_ended, is_unfinished, ended_of, counted_in, fall_of, counted_cascade, unlisted, cascade_unfinished, cascade_rising, target_stays, AllGuardsLinked, GuardIsLinked, Mostly, NoneMet, RowFormed, WellFormed, Machine, mapped_at}
 use Rattle.links_drains.specs.Counts.{is_met}
-use Rattle.links_drains.specs.Links.{is_guard}
-use Rattle.links_drains.specs.Numbered.{map_numbered}
-use Rattle.links_drains.specs.Phases.{is_ended, is_unfinished, ended_of}
-use Rattle.timeouts_cancel.specs.Cascades.{counted_in, fall_of}
-use Rattle.timeouts_cancel.proofs.Whole.{counted_cascade, unlisted, cascade_unfinished, cascade_rising, target_stays}
 use Rattle.machine.specs.Steps.{all_ended, cascaded}
-use Rattle.machine.specs.Whole.{AllGuardsLinked, GuardIsLinked, Mostly, NoneMet, RowFormed, WellFormed}
-use Rattle.machine.specs.declared.whole.Machine.{Machine}
 use Rattle.machine.proofs.EndedRows.{CanEnd, can_end, ended_or_same, ended_together, unlisted_same}
 use Rattle.machine.proofs.FormedMachines.{mostly, mostly_ended, formed_of}
 use Rattle.machine.proofs.FormedRows.{ended_row}
-use Rattle.links_drains.proofs.EndingRows.{mapped_at}
 
 pub direct_cascade : (rows : List Row) (c : ℕ) (direct : List (ℕ × ℤ)) → Direct rows (fall_of rows c direct)
 direct_cascade rows c direct = record { each = cascade_unfinished rows c direct; rising = cascade_rising rows c direct }

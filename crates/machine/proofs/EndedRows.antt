@@ -1,21 +1,5 @@
 -- Requests that complete together.
-use Rattle.std.proofs.Common.{◌≡◌, ℕ, ℤ, zero, suc, Bool, true, false, cond, refl, sym, ◌∙◌, ap, subst, List, [], ◌∷◌, length, ◌+◌, ◌<◌, ◌≤◌, ◌⊎◌, arith, rules}
-use Rattle.std.proofs.lemmas.Bool.{eqb-true}
-use Rattle.std.specs.Prelude.{Option, Some, None, option_map, slice_get, not, ◌==◌}
-use Rattle.std.specs.Option.{option_map_or}
-use Rattle.entries.specs.declared.row.Row.{Row}
-use Rattle.entries.specs.declared.row.Phase.TheVariants.{Ended}
-use Rattle.places.specs.Lists.{updated}
-use Rattle.places.proofs.ListLemmas.{length-updated}
-use Rattle.links_drains.specs.Endings.{Direct, Ending, ended_by, result_in}
-use Rattle.links_drains.specs.Links.{Chained}
-use Rattle.links_drains.specs.Numbered.{map_numbered}
-use Rattle.links_drains.specs.Phases.{counted_of, counts, ended_of, is_ended}
-use Rattle.links_drains.proofs.Chains.{chained-updated}
-use Rattle.links_drains.proofs.Counting.{counted-ended, ended-ended, ended-le-length}
-use Rattle.links_drains.proofs.EndingRows.{first_ended, mapped_at, none_ended}
-use Rattle.links_drains.proofs.RowsKept.{get-updated}
-use Rattle.timeouts_cancel.specs.Cascades.{counted_in}
+use Rattle.machine.proofs.Common.{◌≡◌, ℕ, ℤ, zero, suc, Bool, true, false, cond, refl, sym, ◌∙◌, ap, subst, List, [], ◌∷◌, length, ◌+◌, ◌<◌, ◌≤◌, ◌⊎◌, arith, rules, eqb-true, Option, Some, None, option_map, slice_get, not, ◌==◌, option_map_or, Row, Ended, updated, length-updated, Direct, Ending, ended_by, result_in, Chained, map_numbered, counted_of, counts, ended_of, is_ended, chained-updated, counted-ended, ended-ended, ended-le-length, first_ended, mapped_at, none_ended, get-updated, counted_in}
 use Rattle.machine.proofs.GuardLemmas.{here}
 
 -- A request after it completed.

@@ -1,29 +1,8 @@
 -- Invariants that a submission preserves.
-use Rattle.std.proofs.Common.{◌≡◌, ℕ, ℤ, Bool, true, refl, sym, ◌∙◌, ap, subst, List, ◌++◌, length, ◌+◌, ◌*◌, ◌%◌, ◌<◌, ◌≤◌, ◌^◌, ◌⊎◌, inl, inr, length-append, length-take, arith}
-use Rattle.std.specs.Prelude.{Option, Some, None, slice_get}
-use Rattle.entries.specs.declared.entry.Sqe.{Sqe}
-use Rattle.std.proofs.lemmas.Grind.{common_steps}
-use Rattle.std.proofs.lemmas.Option.{gets}
-use Rattle.entries.specs.declared.row.Row.{Row}
+use Rattle.machine.proofs.Common.{◌≡◌, ℕ, ℤ, Bool, true, refl, sym, ◌∙◌, ap, subst, List, ◌++◌, length, ◌+◌, ◌*◌, ◌%◌, ◌<◌, ◌≤◌, ◌^◌, ◌⊎◌, inl, inr, length-append, length-take, arith, Option, Some, None, slice_get, Sqe, common_steps, gets, Row, formed_taken, sub_length, waiting_after, rows_of, direct_of, taken_of, result_in, Direct, PutsWithin, WorldState, puts_more, fall_of, is_guard, is_unfinished, ended_of, chained-batch, get-appended, counted-append, ended-append, GuardsAreLinked, offered, taken_words, taken_entries, entries_for, taken, submitted, GuardIsLinked, Mostly, RowFormed, WellFormed, Machine}
 use Rattle.ring_words.specs.Rings.{SubWords, SubFormed, waiting, sub_list}
-use Rattle.ring_words.proofs.Laws.{formed_taken, sub_length}
-use Rattle.ring_words.proofs.Order.{waiting_after}
-use Rattle.links_drains.specs.Batches.{rows_of, direct_of, taken_of}
-use Rattle.links_drains.specs.Endings.{result_in, Direct}
-use Rattle.model_files.specs.Worlds.{PutsWithin, WorldState}
-use Rattle.opcodes.proofs.Counting.{puts_more}
-use Rattle.timeouts_cancel.specs.Cascades.{fall_of}
-use Rattle.links_drains.specs.Links.{is_guard}
-use Rattle.links_drains.specs.Phases.{is_unfinished, ended_of}
 use Rattle.links_drains.proofs.Batching.{length-rows_of}
-use Rattle.links_drains.proofs.Chains.{chained-batch, get-appended}
-use Rattle.links_drains.proofs.Counting.{counted-append, ended-append}
 use Rattle.links_drains.proofs.DirectPairs.{direct-batch, unlisted_passes}
-use Rattle.timeouts_cancel.specs.Cascades.{GuardsAreLinked}
-use Rattle.machine.specs.Submission.{offered, taken_words, taken_entries}
-use Rattle.machine.specs.Steps.{entries_for, taken, submitted}
-use Rattle.machine.specs.Whole.{GuardIsLinked, Mostly, RowFormed, WellFormed}
-use Rattle.machine.specs.declared.whole.Machine.{Machine}
 use Rattle.machine.proofs.FormedMachines.{mostly}
 use Rattle.machine.proofs.CascadedRows.{formed_cascaded_but}
 use Rattle.machine.proofs.GuardLemmas.{batch_target_is, batch_guard, guard_before, guards_linked}

@@ -1,26 +1,7 @@
 -- Linked timeouts come directly after their targets.
-use Rattle.std.proofs.Common.{◌≡◌, ℕ, ℤ, zero, suc, Bool, true, false, cond, refl, sym, ◌∙◌, ap, subst, List, [], ◌∷◌, ◌++◌, length, ◌+◌, ◌-◌, inl, inr, arith}
-use Rattle.std.specs.Prelude.{Option, Some, None, option_map, is_none, slice_get, ◌==◌, ◌&&◌, if◌then◌else◌}
-use Rattle.std.specs.Option.{option_and_then, option_map_or}
-use Rattle.std.specs.Result.{result_err}
-use Rattle.std.proofs.lemmas.Bool.{cases_eq, eq-eqb, eqb-true, ne_eqb}
-use Rattle.entries.specs.declared.entry.Sqe.{Sqe}
-use Rattle.entries.specs.declared.row.Row.{Row}
-use Rattle.entries.specs.declared.row.Phase.{Phase}
-use Rattle.entries.specs.declared.row.Phase.TheVariants.{Queued}
-use Rattle.model_files.specs.Worlds.{WorldState}
+use Rattle.machine.proofs.Common.{◌≡◌, ℕ, ℤ, zero, suc, Bool, true, false, cond, refl, sym, ◌∙◌, ap, subst, List, [], ◌∷◌, ◌++◌, length, ◌+◌, ◌-◌, inl, inr, arith, Option, Some, None, option_map, is_none, slice_get, ◌==◌, ◌&&◌, if◌then◌else◌, option_and_then, option_map_or, result_err, cases_eq, eq-eqb, eqb-true, ne_eqb, Sqe, Row, Phase, Queued, WorldState, updated, previous_in, chain_of, error_at, error_of, row_of as batch_row_of, rows_of, shown_on, is_guard, is_linked, is_queued, is_unfinished, Became, became, get-batch, get-appended, get-updated, GuardsAreLinked, is_guard_of, started, AllGuardsLinked, GuardIsLinked, WellFormed, Machine}
 use Rattle.opcodes.specs.Check.{can_guard, check_of}
-use Rattle.places.specs.Lists.{updated}
-use Rattle.links_drains.specs.Batches.{previous_in, chain_of, error_at, error_of, row_of as batch_row_of, rows_of, shown_on}
 use Rattle.links_drains.specs.Eligible.{GuardsFollow, is_eligible}
-use Rattle.links_drains.specs.Links.{is_guard, is_linked}
-use Rattle.links_drains.specs.Phases.{is_queued, is_unfinished}
-use Rattle.links_drains.proofs.Chains.{Became, became, get-batch, get-appended}
-use Rattle.links_drains.proofs.RowsKept.{get-updated}
-use Rattle.timeouts_cancel.specs.Cascades.{GuardsAreLinked}
-use Rattle.machine.specs.Steps.{is_guard_of, started}
-use Rattle.machine.specs.Whole.{AllGuardsLinked, GuardIsLinked, WellFormed}
-use Rattle.machine.specs.declared.whole.Machine.{Machine}
 
 -- ---- What cascades require of linked timeouts
 

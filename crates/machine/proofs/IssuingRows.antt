@@ -1,17 +1,7 @@
 -- To issue a request together with its linked timeout is the same as to issue them one after the
 -- other.
-use Rattle.std.proofs.Common.{◌≡◌, ℕ, Bool, true, false, refl, sym, ◌∙◌, ap, List, ◌+◌, arith}
-use Rattle.std.proofs.lemmas.Bool.{cases_eq, eq-eqb, ne_eqb}
-use Rattle.std.specs.Prelude.{Option, Some, None, option_map, slice_get, if◌then◌else◌}
-use Rattle.std.specs.Option.{option_map_or}
-use Rattle.entries.specs.declared.row.Row.{Row}
-use Rattle.places.specs.Lists.{updated}
-use Rattle.places.proofs.ListLemmas.{same_list}
-use Rattle.links_drains.proofs.RowsKept.{get-updated}
-use Rattle.machine.specs.Steps.{all_started, is_guard_of, started, started_with}
-use Rattle.machine.specs.Whole.{AllGuardsLinked}
+use Rattle.machine.proofs.Common.{◌≡◌, ℕ, Bool, true, false, refl, sym, ◌∙◌, ap, List, ◌+◌, arith, cases_eq, eq-eqb, ne_eqb, Option, Some, None, option_map, slice_get, if◌then◌else◌, option_map_or, Row, updated, same_list, get-updated, all_started, is_guard_of, started, started_with, AllGuardsLinked, mapped_at}
 use Rattle.machine.proofs.GuardLemmas.{apart, guard_is_guard_of, here, started_in_turn, unfinished_queued}
-use Rattle.links_drains.proofs.EndingRows.{mapped_at}
 
 none_changed : (f : Row → Row) (rows : List Row) (r i : ℕ) → slice_get rows i ≡ None → slice_get (updated f rows r) i ≡ None
 none_changed = grind (arith, get-updated)

@@ -1,26 +1,8 @@
 -- A submission of nothing changes nothing.
-use Rattle.std.proofs.Common.{◌≡◌, ℕ, ℤ, pos, Bool, false, refl, sym, ◌∙◌, ap, List, [], length, ◌+◌, ◌⊎◌, inl, inr, arith, rules}
-use Rattle.std.specs.Prelude.{Option, Some, None, slice_get, not, if◌then◌else◌}
-use Rattle.entries.specs.declared.row.Row.{Row}
-use Rattle.links_drains.specs.Batches.{direct_of, rows_of}
-use Rattle.links_drains.specs.Endings.{ecanceled, ended_by, endings, given, or_else, result_in}
-use Rattle.links_drains.specs.Numbered.{map_numbered}
-use Rattle.links_drains.specs.Phases.{is_unfinished}
-use Rattle.links_drains.proofs.Chains.{became}
-use Rattle.links_drains.proofs.EndingRows.{none_ended}
-use Rattle.model_files.specs.Worlds.{WorldState}
-use Rattle.ring_words.specs.Rings.{SubWords}
-use Rattle.overflow.specs.Backlogs.{Delivery, all_posted, is_clear}
-use Rattle.timeouts_cancel.specs.Cascades.{fall_of, guards_listed, is_met, with_guards, with_met, with_severed}
+use Rattle.machine.proofs.Common.{◌≡◌, ℕ, ℤ, pos, Bool, false, refl, sym, ◌∙◌, ap, List, [], length, ◌+◌, ◌⊎◌, inl, inr, arith, rules, Option, Some, None, slice_get, not, if◌then◌else◌, Row, direct_of, rows_of, ecanceled, ended_by, endings, given, or_else, result_in, map_numbered, is_unfinished, became, none_ended, WorldState, SubWords, Delivery, all_posted, is_clear, fall_of, guards_listed, is_met, with_guards, with_met, with_severed, taken_entries, NoneMet, WellFormed, flag_word, is_asleep, Machine, Enter, Take, common_steps}
 use Rattle.timeouts_cancel.proofs.Listed.{upto_all}
-use Rattle.machine.specs.Submission.{taken_entries}
 use Rattle.machine.specs.Steps.{after, all_ended, answered, delivery, entries_for, executed, cascaded, submitted, taken, with_delivery}
-use Rattle.machine.specs.Whole.{NoneMet, WellFormed, flag_word, is_asleep}
-use Rattle.machine.specs.declared.whole.Machine.{Machine}
-use Rattle.scenario.specs.declared.setup.Instruction.TheVariants.{Enter}
-use Rattle.scenario.specs.declared.event.Event.TheVariants.{Take}
 use Rattle.machine.proofs.FormedSubmissions.{old_or_new}
-use Rattle.std.proofs.lemmas.Grind.{common_steps}
 
 pub empty : {X : Type 0} (xs : List X) → length xs ≡ 0 → xs ≡ []
 empty = grind (arith, common_steps)

@@ -1,29 +1,10 @@
 -- Undoing a list of changes.
-use Rattle.std.proofs.Common.{◌≡◌, ℕ, Bool, true, sym, ◌∙◌, ap, subst, List, ◌∷◌, length, map, arith}
-use Rattle.std.specs.Prelude.{Option, Some, None, is_some, option_map, slice_get}
-use Rattle.std.proofs.lemmas.Option.{slice_get-map}
-use Rattle.std.proofs.lemmas.List.{length-map}
-use Rattle.places.specs.declared.place.Place.{Place}
-use Rattle.places.specs.declared.place.Place.TheVariants.{Request, Clock, Counted, PollerStage, ProgramCounter, ThreadStage, Last, Got}
-use Rattle.places.specs.declared.value.Value.{Value}
-use Rattle.places.specs.declared.value.Value.TheVariants.{Number, Signed, Requested, Staged, Reaped, Awake as AwakeValue}
-use Rattle.places.specs.declared.value.Change.{Change}
+use Rattle.machine.proofs.Common.{◌≡◌, ℕ, Bool, true, sym, ◌∙◌, ap, subst, List, ◌∷◌, length, map, arith, Option, Some, None, is_some, option_map, slice_get, slice_get-map, length-map, Place, Request, Clock, Counted, PollerStage, ProgramCounter, ThreadStage, Last, Got, Value, Number, Signed, Requested, Staged, Reaped, Awake as AwakeValue, Change, same_place_is, same_list, fixed_of, counted-le-length, ended-le-length, was_fixed, as_many, sub_seen, com_seen, world_seen, BacklogFormed, backlog_seen, Poller, ThreadState, program_of, Machine}
 use Rattle.places.specs.View.{View, named, undo, put_at, LeadsBack, Exact}
-use Rattle.places.proofs.SamePlace.{same_place_is}
-use Rattle.places.proofs.ListLemmas.{same_list}
-use Rattle.links_drains.specs.Rows.{fixed_of}
-use Rattle.links_drains.proofs.Counting.{counted-le-length, ended-le-length}
-use Rattle.links_drains.proofs.Remaining.{was_fixed, as_many}
-use Rattle.ring_words.specs.Rings.{sub_seen, com_seen}
 use Rattle.ring_words.proofs.Restoring.{none_here, some_here, same_through, sub_seen_can_put, com_seen_can_put, sub_absent_same, com_absent_same, same_sub, same_com}
-use Rattle.model_files.specs.Worlds.{world_seen}
 use Rattle.model_files.proofs.Restoring.{world_seen_can_put, world_absent_same, same_world}
-use Rattle.overflow.specs.Backlogs.{BacklogFormed, backlog_seen}
 use Rattle.overflow.proofs.Restoring.{backlog_seen_can_put, backlog_absent_same, same_backlog}
-use Rattle.sqpoll.specs.declared.poller.Poller.{Poller}
-use Rattle.machine.specs.Threads.{ThreadState, program_of}
 use Rattle.machine.specs.Whole.{view, can_put, stage_of, OneSetup, WellFormed}
-use Rattle.machine.specs.declared.whole.Machine.{Machine}
 
 -- An exact record leads back.
 pub back_from_exact : (u v : View) (cs : List Change) → Exact u v cs → LeadsBack u v cs

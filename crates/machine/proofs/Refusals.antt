@@ -1,27 +1,7 @@
 -- The reported refusal is the one with the smallest number among the causes of an event.
-use Rattle.std.proofs.Common.{◌≡◌, ℕ, Bool, true, false, cond, refl, sym, ◌∙◌, ap, subst, List, [], ◌∷◌, length, ◌+◌, ◌-◌, ◌<◌, ◌⊎◌, inl, inr, arith}
-use Rattle.std.specs.Prelude.{Option, Some, None, is_none, not, ◌==◌, ◌&&◌, slice_get, nat_le, unwrap_or}
-use Rattle.std.specs.List.{find}
-use Rattle.std.specs.Option.{option_map_or, option_and_then}
-use Rattle.std.proofs.lemmas.Bool.{cases_order, le-leb, lt-leb}
-use Rattle.std.proofs.lemmas.Option.{slice_get_cases, slice_get_within}
-use Rattle.entries.specs.declared.row.Row.{Row}
-use Rattle.entries.specs.declared.choice.Choice.{Choice}
-use Rattle.opcodes.specs.declared.ending.Outcome.{Outcome}
-use Rattle.opcodes.specs.Opcodes.{is_cancel}
-use Rattle.opcodes.specs.Outcomes.{outcome_of}
-use Rattle.places.specs.declared.value.Stage.{Stage}
-use Rattle.places.specs.declared.value.Stage.TheVariants.{Ready, Waiting}
+use Rattle.machine.proofs.Common.{◌≡◌, ℕ, Bool, true, false, cond, refl, sym, ◌∙◌, ap, subst, List, [], ◌∷◌, length, ◌+◌, ◌-◌, ◌<◌, ◌⊎◌, inl, inr, arith, Option, Some, None, is_none, not, ◌==◌, ◌&&◌, slice_get, nat_le, unwrap_or, find, option_map_or, option_and_then, cases_order, le-leb, lt-leb, slice_get_cases, slice_get_within, Row, Choice, Outcome, is_cancel, outcome_of, Stage, Ready, Waiting, is_held_by, ThreadState, choice_refusal, flushed, full_refusal, instruction_refusal, next_refusal, outcome_refusal, ready_count, refusal, submission_refusal, thread_refusal, Machine, Instruction, Put, Push, Store, Enter, Reap, Close, Event, Step, Take, Sleep, Issue, Finish, Expire, Tick}
 use Rattle.ring_words.specs.Rings.{sub_list, waiting}
-use Rattle.links_drains.specs.Holding.{is_held_by}
-use Rattle.machine.specs.Threads.{ThreadState}
-use Rattle.machine.specs.Steps.{choice_refusal, flushed, full_refusal, instruction_refusal, next_refusal, outcome_refusal, ready_count, refusal, submission_refusal, thread_refusal}
 use Rattle.machine.specs.Refusals.{cannot_end, executes, has_cause, is_at_end, is_bad_choice, is_in_full, is_push, is_reap, is_unready, is_waits, number_of, submits_too_many, waits_still}
-use Rattle.machine.specs.declared.whole.Machine.{Machine}
-use Rattle.scenario.specs.declared.setup.Instruction.{Instruction}
-use Rattle.scenario.specs.declared.setup.Instruction.TheVariants.{Put, Push, Store, Enter, Reap, Close}
-use Rattle.scenario.specs.declared.event.Event.{Event}
-use Rattle.scenario.specs.declared.event.Event.TheVariants.{Step, Take, Sleep, Issue, Finish, Expire, Tick}
 use Rattle.scenario.specs.declared.event.Refusal.{Refusal}
 use Rattle.scenario.specs.declared.event.Refusal.TheVariants.{NoSuchThread, ThreadDone, SqFull, NothingToReap, StillWaiting, NoSuchRequest, WrongPhase, NotEligible, NotReady, NotDue, BadChoice, NoPoller, Asleep, NotIdle, ClockFull, RequestsFull, Memory}
 

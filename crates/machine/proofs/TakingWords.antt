@@ -1,12 +1,6 @@
 -- Reading the words of the submission ring, and the entries that they refer to.
-use Rattle.std.proofs.Common.{◌≡◌, ℕ, zero, suc, Bool, cond, refl, sym, ◌∙◌, ap, List, [], ◌∷◌, ◌++◌, length, take, drop, ◌+◌, ◌-◌, ◌<◌, ◌≤◌, arith}
-use Rattle.std.specs.Prelude.{Some, None, is_some, slice_get, min}
-use Rattle.std.proofs.lemmas.Grind.{common_steps}
-use Rattle.std.proofs.lemmas.List.{append-nil, take_more}
+use Rattle.machine.proofs.Common.{◌≡◌, ℕ, zero, suc, Bool, cond, refl, sym, ◌∙◌, ap, List, [], ◌∷◌, ◌++◌, length, take, drop, ◌+◌, ◌-◌, ◌<◌, ◌≤◌, arith, Some, None, is_some, slice_get, min, common_steps, append-nil, take_more, slice_get_within, get_or_from_slice_get, Sqe, entries_at, up_to_entry}
 use Rattle.std.proofs.lemmas.List.Elements.{filter_map-append}
-use Rattle.std.proofs.lemmas.Option.{slice_get_within, get_or_from_slice_get}
-use Rattle.entries.specs.declared.entry.Sqe.{Sqe}
-use Rattle.machine.specs.Submission.{entries_at, up_to_entry}
 
 -- To take more items than there are takes all of them.
 pub take_least : {X : Type 0} (k : ℕ) (xs : List X) → take (min k (length xs)) xs ≡ take k xs
