@@ -1,23 +1,9 @@
 -- Lemmas about the first entries of a batch, as requests are added one by one.
-use Rattle.std.proofs.Common.{◌≡◌, ℕ, ℤ, zero, suc, Bool, true, false, not, cond, refl, sym, ◌∙◌, ap, List, [], ◌∷◌, ◌++◌, take, length, ◌<◌, ◌≤◌, ◌+◌, ◌⊎◌, inl, inr, append_assoc, length-append, map, subst, arith}
-use Rattle.std.specs.Prelude.{Option, Some, None, option_map, is_none, is_some, slice_get}
-use Rattle.std.specs.Option.{option_map_or}
-use Rattle.std.specs.List.{prefix_len, list_any, enumerate_from}
-use Rattle.std.proofs.lemmas.Grind.{common_steps}
-use Rattle.std.proofs.lemmas.List.{length-take-le, take_all}
+use Rattle.links_drains.proofs.Common.{◌≡◌, ℕ, ℤ, zero, suc, Bool, true, false, not, cond, refl, sym, ◌∙◌, ap, List, [], ◌∷◌, ◌++◌, take, length, ◌<◌, ◌≤◌, ◌+◌, ◌⊎◌, inl, inr, append_assoc, length-append, map, subst, arith, Option, Some, None, option_map, is_none, is_some, slice_get, option_map_or, prefix_len, list_any, enumerate_from, common_steps, length-take-le, take_all, gets, slice_get-map, Sqe, Row, Keeps, named, keeps_then, WorldState, previous_in, chain_of, error_at, error_of, errors_of, row_of, rows_of, target_of, up_to_failure, is_linked, ChainContinues, table_owns, table_seen, new_row}
 use Rattle.std.proofs.lemmas.List.FromFn.{length-enumerate_from}
-use Rattle.std.proofs.lemmas.Option.{gets, slice_get-map}
-use Rattle.entries.specs.declared.entry.Sqe.{Sqe}
-use Rattle.entries.specs.declared.row.Row.{Row}
 use Rattle.places.specs.Notes.{Notes}
 use Rattle.places.specs.declared.place.Place.{Place}
-use Rattle.places.specs.View.{Keeps, named}
-use Rattle.places.proofs.Keeping.{keeps_then}
-use Rattle.model_files.specs.Worlds.{WorldState}
 use Rattle.opcodes.specs.Check.{time_of}
-use Rattle.links_drains.specs.Batches.{previous_in, chain_of, error_at, error_of, errors_of, row_of, rows_of, target_of, up_to_failure}
-use Rattle.links_drains.specs.Links.{is_linked, ChainContinues}
-use Rattle.links_drains.specs.Rows.{table_owns, table_seen, new_row}
 use Rattle.links_drains.proofs.Chains.{enumerated, get-batch}
 use Rattle.links_drains.proofs.RowsKept.{length-push, get-pushed}
 

@@ -1,17 +1,5 @@
 -- Chains remain contiguous when the table changes.
-use Rattle.std.proofs.Common.{◌≡◌, ℕ, zero, suc, Bool, true, false, cond, refl, sym, ◌∙◌, ap, List, [], ◌∷◌, ◌++◌, length, take, ◌+◌, ◌-◌, ◌<◌, ◌≤◌, ◌⊎◌, inl, inr, arith}
-use Rattle.std.specs.Prelude.{Option, Some, None, option_map, slice_get}
-use Rattle.std.specs.Option.{option_map_or}
-use Rattle.std.specs.List.{enumerate_from}
-use Rattle.std.proofs.lemmas.Bool.{cases_lt}
-use Rattle.std.proofs.lemmas.Option.{slice_get-map, slice_get_within}
-use Rattle.entries.specs.declared.entry.Sqe.{Sqe}
-use Rattle.entries.specs.declared.row.Row.{Row}
-use Rattle.places.specs.Lists.{updated}
-use Rattle.places.proofs.ListLemmas.{slice_get-take_below, slice_get-take_above}
-use Rattle.model_files.specs.Worlds.{WorldState}
-use Rattle.links_drains.specs.Batches.{chain_of, row_of, rows_of}
-use Rattle.links_drains.specs.Links.{is_linked, Chained}
+use Rattle.links_drains.proofs.Common.{◌≡◌, ℕ, zero, suc, Bool, true, false, cond, refl, sym, ◌∙◌, ap, List, [], ◌∷◌, ◌++◌, length, take, ◌+◌, ◌-◌, ◌<◌, ◌≤◌, ◌⊎◌, inl, inr, arith, Option, Some, None, option_map, slice_get, option_map_or, enumerate_from, cases_lt, slice_get-map, slice_get_within, Sqe, Row, updated, slice_get-take_below, slice_get-take_above, WorldState, chain_of, row_of, rows_of, is_linked, Chained}
 use Rattle.links_drains.proofs.RowsKept.{get-updated}
 
 -- ---- Chains of a batch

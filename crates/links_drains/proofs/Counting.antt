@@ -1,13 +1,6 @@
 -- How the counts of completed requests change with the table.
-use Rattle.std.proofs.Common.{◌≡◌, ℕ, ℤ, zero, suc, Bool, true, false, cond, List, [], ◌∷◌, ◌++◌, length, ◌+◌, ◌≤◌, arith}
-use Rattle.std.specs.Prelude.{Some, slice_get, ◌&&◌}
-use Rattle.std.specs.List.{filter}
+use Rattle.links_drains.proofs.Common.{◌≡◌, ℕ, ℤ, zero, suc, Bool, true, false, cond, List, [], ◌∷◌, ◌++◌, length, ◌+◌, ◌≤◌, arith, Some, slice_get, ◌&&◌, filter, Ended, Row, updated, is_ended, counts, counted_of, ended_of, common_steps}
 use Rattle.std.proofs.lemmas.List.Sums.{length-filter, count_by-le-length}
-use Rattle.entries.specs.declared.row.Phase.TheVariants.{Ended}
-use Rattle.entries.specs.declared.row.Row.{Row}
-use Rattle.places.specs.Lists.{updated}
-use Rattle.links_drains.specs.Phases.{is_ended, counts, counted_of, ended_of}
-use Rattle.std.proofs.lemmas.Grind.{common_steps}
 
 -- ---- Counts of rows that pass a test
 

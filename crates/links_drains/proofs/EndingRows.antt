@@ -1,22 +1,9 @@
 -- Requests that complete one after the other, by ascending number.
-use Rattle.std.proofs.Common.{◌≡◌, ℕ, ℤ, zero, suc, Bool, true, false, cond, refl, sym, ◌∙◌, ap, List, [], ◌∷◌, length, drop, ◌+◌, ◌<◌, ◌≤◌, arith}
-use Rattle.std.specs.Prelude.{Some, None, option_map, slice_get, ◌==◌}
-use Rattle.std.proofs.lemmas.Bool.{eqb-true}
-use Rattle.std.proofs.lemmas.Option.{slice_get-map, slice_get_within}
-use Rattle.entries.specs.declared.row.Row.{Row}
-use Rattle.entries.specs.declared.row.Phase.TheVariants.{Ended}
-use Rattle.places.specs.Lists.{updated}
+use Rattle.links_drains.proofs.Common.{◌≡◌, ℕ, ℤ, zero, suc, Bool, true, false, cond, refl, sym, ◌∙◌, ap, List, [], ◌∷◌, length, drop, ◌+◌, ◌<◌, ◌≤◌, arith, Some, None, option_map, slice_get, ◌==◌, eqb-true, slice_get-map, slice_get_within, Row, Ended, updated, Keeps, keeps_then, same_list, Direct, Ending, ended_by, result_in, map_numbered, Stay, table_owns, table_seen, common_steps}
 use Rattle.places.specs.Notes.{Notes}
-use Rattle.places.specs.View.{Keeps}
-use Rattle.places.proofs.Keeping.{keeps_then}
-use Rattle.places.proofs.ListLemmas.{same_list}
-use Rattle.links_drains.specs.Endings.{Direct, Ending, ended_by, result_in}
-use Rattle.links_drains.specs.Numbered.{map_numbered}
-use Rattle.links_drains.specs.Rows.{Stay, table_owns, table_seen}
 use Rattle.links_drains.proofs.Chains.{enumerated}
 use Rattle.links_drains.proofs.Remaining.{stay_then}
 use Rattle.links_drains.proofs.RowsKept.{get-updated}
-use Rattle.std.proofs.lemmas.Grind.{common_steps}
 
 pub mapped_at : (f : ℕ → Row → Row) (rows : List Row) (i : ℕ) → slice_get (map_numbered f rows) i ≡ option_map (λ row. f i row) (slice_get rows i)
 mapped_at = grind (arith, slice_get-map, enumerated)

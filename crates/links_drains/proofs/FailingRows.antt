@@ -1,20 +1,7 @@
 -- The requests of a batch that complete as they are submitted, computed row by row.
-use Rattle.std.proofs.Common.{◌≡◌, ℕ, ℤ, zero, suc, Bool, true, false, cond, refl, sym, ◌∙◌, ap, List, [], ◌∷◌, ◌++◌, take, drop, length, replicate, get_or, ◌<◌, ◌≤◌, ◌+◌, ◌-◌, arith}
-use Rattle.std.specs.Prelude.{Option, Some, None, option_map, is_some, slice_get, slice_set, ◌==◌, ◌&&◌, ◌||◌}
-use Rattle.std.specs.Option.{option_and_then}
-use Rattle.std.specs.List.{cons_option, list_any, enumerate_from}
-use Rattle.std.proofs.lemmas.Bool.{eq-eqb, eqb-true, ne_eqb, and_left, and_right}
-use Rattle.std.proofs.lemmas.List.{get_or-drop, length-drop, length-set, length-replicate, length-take-le, take_all}
+use Rattle.links_drains.proofs.Common.{◌≡◌, ℕ, ℤ, zero, suc, Bool, true, false, cond, refl, sym, ◌∙◌, ap, List, [], ◌∷◌, ◌++◌, take, drop, length, replicate, get_or, ◌<◌, ◌≤◌, ◌+◌, ◌-◌, arith, Option, Some, None, option_map, is_some, slice_get, slice_set, ◌==◌, ◌&&◌, ◌||◌, option_and_then, cons_option, list_any, enumerate_from, eq-eqb, eqb-true, ne_eqb, and_left, and_right, get_or-drop, length-drop, length-set, length-replicate, length-take-le, take_all, slice_get-get_or, get_or_from_slice_get, Sqe, Row, slice_get-set, WorldState, chain_fails, chain_of, error_at, error_of, rows_of, direct_result, ecanceled, given, or_else, paired, endings_from, is_unfinished}
 use Rattle.std.proofs.lemmas.List.FromFn.{length-enumerate_from}
 use Rattle.std.proofs.lemmas.List.Folds.{list_any-append}
-use Rattle.std.proofs.lemmas.Option.{slice_get-get_or, get_or_from_slice_get}
-use Rattle.entries.specs.declared.entry.Sqe.{Sqe}
-use Rattle.entries.specs.declared.row.Row.{Row}
-use Rattle.places.proofs.ListLemmas.{slice_get-set}
-use Rattle.model_files.specs.Worlds.{WorldState}
-use Rattle.links_drains.specs.Batches.{chain_fails, chain_of, error_at, error_of, rows_of, direct_result}
-use Rattle.links_drains.specs.Endings.{ecanceled, given, or_else, paired, endings_from}
-use Rattle.links_drains.specs.Phases.{is_unfinished}
 use Rattle.links_drains.proofs.Batching.{element_there, length-rows_of, take_more}
 use Rattle.links_drains.proofs.Chains.{became, chain_before, enumerated}
 use Rattle.links_drains.proofs.Listing.{result_of, endings_step}

@@ -1,23 +1,8 @@
 -- The finder leads to every request that is sought.
-use Rattle.std.proofs.Common.{◌≡◌, ◌≢◌, ℕ, Bool, true, false, cond, sym, ◌∙◌, ap, List, [], ◌∷◌, ◌++◌, length, take, set, get_or, max, ◌+◌, ◌-◌, ◌*◌, ◌/◌, ◌%◌, ◌<◌, ◌≤◌, ◌⊎◌, inl, inr, arith}
-use Rattle.std.specs.Prelude.{Some, None, slice_get, slice_set, ◌==◌, ◌&&◌}
-use Rattle.std.proofs.lemmas.Bool.{and_left, both_ways, cases_Bool, cases_eq, cases_lt, eqb-true, ne_eqb}
-use Rattle.std.proofs.lemmas.List.{get_or-set_same, get_or-set_other, length-set, length-take}
-use Rattle.std.proofs.lemmas.Option.{slice_get_within}
-use Rattle.entries.specs.declared.row.Row.{Row}
-use Rattle.model_files.specs.Holders.{is_descriptor_number}
-use Rattle.places.proofs.ListLemmas.{slice_get-set, slice_get-take_below, slice_get-take_above}
-use Rattle.bit_sets.specs.Sets.{has, IsNext, NoneFrom}
-use Rattle.links_drains.specs.Finders.{Findable, HasPlace, IsMarked, NoHolder, NoUser, hash_of, holds_now, mark_of, row_hash}
-use Rattle.links_drains.specs.Holding.{is_number}
-use Rattle.links_drains.specs.Numbered.{IsNextWhere, NoneWhere}
-use Rattle.links_drains.specs.Phases.{is_issued}
-use Rattle.links_drains.specs.Rows.{fixed_of}
-use Rattle.links_drains.specs.Units.{IsNextIssued, NoneIssuedFrom}
+use Rattle.links_drains.proofs.Common.{◌≡◌, ◌≢◌, ℕ, Bool, true, false, cond, sym, ◌∙◌, ap, List, [], ◌∷◌, ◌++◌, length, take, set, get_or, max, ◌+◌, ◌-◌, ◌*◌, ◌/◌, ◌%◌, ◌<◌, ◌≤◌, ◌⊎◌, inl, inr, arith, Some, None, slice_get, slice_set, ◌==◌, ◌&&◌, and_left, both_ways, cases_Bool, cases_eq, cases_lt, eqb-true, ne_eqb, get_or-set_same, get_or-set_other, length-set, length-take, slice_get_within, Row, is_descriptor_number, slice_get-set, slice_get-take_below, slice_get-take_above, has, IsNext, NoneFrom, Findable, HasPlace, IsMarked, NoHolder, NoUser, hash_of, holds_now, mark_of, row_hash, is_number, IsNextWhere, NoneWhere, is_issued, fixed_of, IsNextIssued, NoneIssuedFrom, common_steps}
 use Rattle.links_drains.specs.declared.finder.Finder.{Finder}
 use Rattle.links_drains.proofs.Indexing.{pushed}
 use Rattle.links_drains.proofs.RowsKept.{length-push}
-use Rattle.std.proofs.lemmas.Grind.{common_steps}
 
 -- ---- Room
 

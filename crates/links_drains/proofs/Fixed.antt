@@ -1,12 +1,5 @@
 -- The fields of a request that never change.
-use Rattle.std.proofs.Common.{◌≡◌, ℕ, ap, List, map, length, ◌<◌, arith}
-use Rattle.std.specs.Prelude.{Some, option_map, slice_get, slice_set, nat_lt, ◌==◌, ◌&&◌}
-use Rattle.std.proofs.lemmas.Option.{slice_get_within}
-use Rattle.entries.specs.declared.entry.Sqe.{Sqe}
-use Rattle.entries.specs.declared.row.Row.{Row}
-use Rattle.places.proofs.ListLemmas.{map_same}
-use Rattle.links_drains.specs.Counts.{has_count}
-use Rattle.links_drains.specs.Rows.{fixed_of}
+use Rattle.links_drains.proofs.Common.{◌≡◌, ℕ, ap, List, map, length, ◌<◌, arith, Some, option_map, slice_get, slice_set, nat_lt, ◌==◌, ◌&&◌, slice_get_within, Sqe, Row, map_same, has_count, fixed_of}
 
 -- Row i exists and may be replaced by the row.
 pub record Fixed (rows : List Row) (i : ℕ) (row : Row) : Type 0 where

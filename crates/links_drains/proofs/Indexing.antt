@@ -1,24 +1,11 @@
 -- The index remains correct when the table changes.
-use Rattle.std.proofs.Common.{◌≡◌, ◌≢◌, ℕ, zero, suc, Bool, true, false, cond, refl, sym, ◌∙◌, ap, subst, List, [], ◌∷◌, ◌++◌, length, take, ◌+◌, ◌-◌, ◌<◌, ◌≤◌, ◌⊎◌, inl, inr, arith}
-use Rattle.std.specs.Prelude.{Some, slice_get, slice_set, ◌==◌, ◌&&◌}
-use Rattle.std.specs.Option.{option_map_or}
-use Rattle.std.proofs.lemmas.Bool.{cases_eq, cases_lt, ne_eqb, and_left}
-use Rattle.std.proofs.lemmas.List.{length-set, length-take}
-use Rattle.std.proofs.lemmas.Option.{slice_get_within, slice_get_past}
-use Rattle.entries.specs.declared.row.Row.{Row}
-use Rattle.places.proofs.ListLemmas.{slice_get-set, slice_get-set_same, slice_get-push, slice_get-take_below, slice_get-take_above, updated_set}
-use Rattle.links_drains.specs.Counts.{has_count, threshold_in, threshold_of}
-use Rattle.links_drains.specs.Links.{has_drain_flag, Chained, ChainContinues}
-use Rattle.links_drains.specs.Indexes.{HasRoom, HasThresholds, Indexed, IndexedBut, Cleared, Unreached, Forgotten}
-use Rattle.bit_sets.specs.Sets.{has}
+use Rattle.links_drains.proofs.Common.{◌≡◌, ◌≢◌, ℕ, zero, suc, Bool, true, false, cond, refl, sym, ◌∙◌, ap, subst, List, [], ◌∷◌, ◌++◌, length, take, ◌+◌, ◌-◌, ◌<◌, ◌≤◌, ◌⊎◌, inl, inr, arith, Some, slice_get, slice_set, ◌==◌, ◌&&◌, option_map_or, cases_eq, cases_lt, ne_eqb, and_left, length-set, length-take, slice_get_within, slice_get_past, Row, slice_get-set, slice_get-set_same, slice_get-push, slice_get-take_below, slice_get-take_above, updated_set, has_count, threshold_in, threshold_of, has_drain_flag, Chained, ChainContinues, HasRoom, HasThresholds, Indexed, IndexedBut, Cleared, Unreached, Forgotten, has, passes_at, is_issued_row, is_open, is_barrier, common_steps}
 use Rattle.bit_sets.specs.Thresholds.{never, threshold_at}
-use Rattle.links_drains.specs.Units.{passes_at, is_issued_row, is_open, is_barrier}
 use Rattle.links_drains.specs.declared.index.Index.{Index}
 use Rattle.links_drains.proofs.Chains.{chained-none, chained-take, chained-updated}
 use Rattle.bit_sets.proofs.Bits.{has_past}
 use Rattle.links_drains.proofs.RowsKept.{length-push}
 use Rattle.links_drains.proofs.Units.{any_of_set, any_of_push, any_of_take, any_of_none}
-use Rattle.std.proofs.lemmas.Grind.{common_steps}
 
 -- ---- Chains
 

@@ -1,12 +1,5 @@
 -- The result that a list of endings has for each row.
-use Rattle.std.proofs.Common.{◌≡◌, ℕ, ℤ, zero, suc, refl, sym, ◌∙◌, ap, subst, List, [], ◌∷◌, ◌+◌, ◌<◌, arith}
-use Rattle.std.specs.Prelude.{Option, Some, None, slice_get, if◌then◌else◌}
-use Rattle.std.specs.Option.{option_and_then}
-use Rattle.std.specs.List.{cons_option}
-use Rattle.std.proofs.lemmas.Bool.{eq-eqb}
-use Rattle.entries.specs.declared.row.Row.{Row}
-use Rattle.links_drains.specs.Phases.{is_unfinished}
-use Rattle.links_drains.specs.Endings.{result_in, paired, endings_from, endings}
+use Rattle.links_drains.proofs.Common.{◌≡◌, ℕ, ℤ, zero, suc, refl, sym, ◌∙◌, ap, subst, List, [], ◌∷◌, ◌+◌, ◌<◌, arith, Option, Some, None, slice_get, if◌then◌else◌, option_and_then, cons_option, eq-eqb, Row, is_unfinished, result_in, paired, endings_from, endings}
 
 -- The result that f has for an unfinished row.
 abbrev pub result_of : (ℕ → Row → Option ℤ) → ℕ → Row → Option ℤ

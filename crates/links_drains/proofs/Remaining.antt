@@ -1,13 +1,5 @@
 -- Requests retain their entry and chain when the table changes.
-use Rattle.std.proofs.Common.{◌≡◌, ℕ, sym, ◌∙◌, ap, List, ◌++◌, length, map, take, ◌<◌, ◌≤◌, arith}
-use Rattle.std.specs.Prelude.{Some, None, option_map, slice_get, slice_set}
-use Rattle.std.proofs.lemmas.Bool.{cases_lt}
-use Rattle.std.proofs.lemmas.Grind.{common_steps}
-use Rattle.std.proofs.lemmas.List.{length-map}
-use Rattle.std.proofs.lemmas.Option.{gets, slice_get-map}
-use Rattle.entries.specs.declared.row.Row.{Row}
-use Rattle.places.proofs.ListLemmas.{same_list, field_same, slice_get-take_below, slice_get-take_above}
-use Rattle.links_drains.specs.Rows.{fixed_of, Stay}
+use Rattle.links_drains.proofs.Common.{◌≡◌, ℕ, sym, ◌∙◌, ap, List, ◌++◌, length, map, take, ◌<◌, ◌≤◌, arith, Some, None, option_map, slice_get, slice_set, cases_lt, common_steps, length-map, gets, slice_get-map, Row, same_list, field_same, slice_get-take_below, slice_get-take_above, fixed_of, Stay}
 use Rattle.links_drains.proofs.Fixed.{fixed_at}
 
 pub stay_then : (a b c : List Row) → length a ≤ length b → Stay a b → Stay b c → Stay a c

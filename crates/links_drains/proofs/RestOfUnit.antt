@@ -1,15 +1,7 @@
 -- The rest of a chain, computed row by row.
-use Rattle.std.proofs.Common.{◌≡◌, ℕ, zero, suc, Bool, true, false, cond, refl, sym, ◌∙◌, ap, List, [], ◌∷◌, ◌++◌, take, length, ◌<◌, ◌≤◌, ◌+◌, inl, inr, arith}
+use Rattle.links_drains.proofs.Common.{◌≡◌, ℕ, zero, suc, Bool, true, false, cond, refl, sym, ◌∙◌, ap, List, [], ◌∷◌, ◌++◌, take, length, ◌<◌, ◌≤◌, ◌+◌, inl, inr, arith, option_map_or, filter, enumerate_from, ltb-true, and_left, cases_Bool, ne_eqb, map-append, slice_get_within, slice_get_past, Row, Chained, is_open, is_rest, passes_at, rest_of}
 use Rattle.std.specs.Prelude.{Option, Some, None, map, option_map, slice_get, ◌==◌, ◌&&◌, nat_lt}
-use Rattle.std.specs.Option.{option_map_or}
-use Rattle.std.specs.List.{filter, enumerate_from}
-use Rattle.std.proofs.lemmas.Bool.{ltb-true, and_left, cases_Bool, ne_eqb}
-use Rattle.std.proofs.lemmas.List.{map-append}
 use Rattle.std.proofs.lemmas.List.Elements.{filter-append}
-use Rattle.std.proofs.lemmas.Option.{slice_get_within, slice_get_past}
-use Rattle.entries.specs.declared.row.Row.{Row}
-use Rattle.links_drains.specs.Links.{Chained}
-use Rattle.links_drains.specs.Units.{is_open, is_rest, passes_at, rest_of}
 use Rattle.links_drains.proofs.Batching.{take_more}
 use Rattle.links_drains.proofs.Chains.{enumerated}
 use Rattle.links_drains.proofs.Units.{passes_here}

@@ -1,10 +1,5 @@
 -- Endings are of unfinished rows, by ascending number.
-use Rattle.std.proofs.Common.{◌≡◌, ℕ, ℤ, zero, suc, true, refl, sym, ◌∙◌, ap, subst, List, [], ◌∷◌, ◌+◌, ◌<◌, arith}
-use Rattle.std.specs.Prelude.{Option, Some, None, slice_get}
-use Rattle.std.specs.List.{cons_option}
-use Rattle.entries.specs.declared.row.Row.{Row}
-use Rattle.links_drains.specs.Phases.{is_unfinished}
-use Rattle.links_drains.specs.Endings.{Ending, paired, endings_from, endings}
+use Rattle.links_drains.proofs.Common.{◌≡◌, ℕ, ℤ, zero, suc, true, refl, sym, ◌∙◌, ap, subst, List, [], ◌∷◌, ◌+◌, ◌<◌, arith, Option, Some, None, slice_get, cons_option, Row, is_unfinished, Ending, paired, endings_from, endings}
 use Rattle.links_drains.proofs.Listing.{result_of, endings_step}
 
 -- The ending belongs to an unfinished row and has the result that f has for it. Rows are numbered

@@ -1,14 +1,8 @@
 -- The places of a changed table.
-use Rattle.std.proofs.Common.{◌≡◌, ℕ, List, [], ◌∷◌, ◌++◌, take, length, ◌<◌, ◌+◌, arith}
-use Rattle.std.specs.Prelude.{Some, None, slice_set}
-use Rattle.entries.specs.declared.row.Row.{Row}
+use Rattle.links_drains.proofs.Common.{◌≡◌, ℕ, List, [], ◌∷◌, ◌++◌, take, length, ◌<◌, ◌+◌, arith, Some, None, slice_set, Row, Requested, put_at, slice_get-set, slice_get-push, slice_get-take, table_seen}
 use Rattle.places.specs.declared.place.Place.{Place}
 use Rattle.places.specs.declared.place.Place.TheVariants.{Request}
-use Rattle.places.specs.declared.value.Value.TheVariants.{Requested}
 use Rattle.places.specs.Places.{same_place}
-use Rattle.places.specs.View.{put_at}
-use Rattle.places.proofs.ListLemmas.{slice_get-set, slice_get-push, slice_get-take}
-use Rattle.links_drains.specs.Rows.{table_seen}
 
 -- A row was replaced.
 pub seen_row : (rows : List Row) (i : ℕ) (row : Row) → i < length rows → (q : Place) → table_seen (slice_set rows i row) q ≡ put_at (table_seen rows) (Request i) (Some (Requested row)) q

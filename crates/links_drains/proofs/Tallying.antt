@@ -1,18 +1,10 @@
 -- The counts of held descriptors remain correct when the table changes.
-use Rattle.std.proofs.Common.{◌≡◌, ℕ, zero, suc, Bool, true, false, cond, refl, sym, ◌∙◌, ap, List, [], ◌∷◌, ◌++◌, length, take, drop, get_or, ◌+◌, ◌-◌, ◌^◌, ◌<◌, ◌≤◌, arith}
-use Rattle.std.specs.Prelude.{Some, slice_get, slice_set, nat_lt, ◌||◌}
-use Rattle.std.specs.List.{filter, list_any}
-use Rattle.std.proofs.lemmas.List.{take-append-drop, take_all}
+use Rattle.links_drains.proofs.Common.{◌≡◌, ℕ, zero, suc, Bool, true, false, cond, refl, sym, ◌∙◌, ap, List, [], ◌∷◌, ◌++◌, length, take, drop, get_or, ◌+◌, ◌-◌, ◌^◌, ◌<◌, ◌≤◌, arith, Some, slice_get, slice_set, nat_lt, ◌||◌, filter, list_any, take-append-drop, take_all, Row, holders, is_held, updated_set, holds, holders_of, is_held_by, Tallied, common_steps}
 use Rattle.std.proofs.lemmas.List.Filters.{length-filter_more}
 use Rattle.std.proofs.lemmas.Bool.Decides.{nat_tests}
-use Rattle.entries.specs.declared.row.Row.{Row}
 use Rattle.model_files.specs.declared.held.Held.{Held}
-use Rattle.model_files.specs.Holders.{holders, is_held}
-use Rattle.places.proofs.ListLemmas.{updated_set}
-use Rattle.links_drains.specs.Holding.{holds, holders_of, is_held_by, Tallied}
 use Rattle.links_drains.proofs.Counting.{matching-more, matching-append, matching-updated, matching-le-length}
 use Rattle.links_drains.proofs.RowsKept.{length-dropped}
-use Rattle.std.proofs.lemmas.Grind.{common_steps}
 
 -- ---- How many requests hold a descriptor
 

@@ -1,14 +1,6 @@
 -- Tests of the rows of a chain, by sets of row numbers and after changes of the table.
-use Rattle.std.proofs.Common.{◌≡◌, ◌≢◌, ℕ, zero, suc, Bool, true, false, refl, sym, ◌∙◌, ap, List, [], ◌∷◌, ◌++◌, take, ◌≤◌, arith}
-use Rattle.std.specs.Prelude.{Some, slice_get, slice_set, ◌==◌, ◌&&◌, ◌||◌, MatchBool}
-use Rattle.std.specs.Option.{option_map_or}
-use Rattle.std.specs.List.{list_any}
-use Rattle.std.proofs.lemmas.Bool.{cases_Bool, eq-eqb, eqb-true, ne_eqb, and_from, and_parts, and_left, or_from, or_left, or_right}
+use Rattle.links_drains.proofs.Common.{◌≡◌, ◌≢◌, ℕ, zero, suc, Bool, true, false, refl, sym, ◌∙◌, ap, List, [], ◌∷◌, ◌++◌, take, ◌≤◌, arith, Some, slice_get, slice_set, ◌==◌, ◌&&◌, ◌||◌, MatchBool, option_map_or, list_any, cases_Bool, eq-eqb, eqb-true, ne_eqb, and_from, and_parts, and_left, or_from, or_left, or_right, Row, Chained, has, IsNext, passes_at, HasRowOf, HasNoRowOf}
 use Rattle.std.proofs.lemmas.List.Folds.{list_any-append}
-use Rattle.entries.specs.declared.row.Row.{Row}
-use Rattle.links_drains.specs.Links.{Chained}
-use Rattle.bit_sets.specs.Sets.{has, IsNext}
-use Rattle.links_drains.specs.Units.{passes_at, HasRowOf, HasNoRowOf}
 
 -- ---- Some item passes a test
 
