@@ -1,31 +1,16 @@
 -- Lemmas about the first entries of a batch, as requests are added one by one.
-use Rattle.std.proofs.Common.{◌≡◌, ℕ, ℤ, zero, suc, Bool, true, false, not, cond, refl, sym, ◌∙◌, ap, List, [], ◌∷◌, ◌++◌, take, length, ◌<◌, ◌≤◌, ◌+◌, ◌⊎◌, inl, inr, append_assoc, length-append, map, subst, arith}
-use Rattle.std.specs.Prelude.{Option, Some, None, option_map, is_none, is_some, slice_get, ◌||◌}
-use Rattle.std.specs.Option.{option_and_then, option_map_or}
-use Rattle.std.specs.List.{prefix_len, list_any, enumerate_from}
-use Rattle.std.proofs.lemmas.Grind.{common_steps}
-use Rattle.std.proofs.lemmas.List.{length-take-le, take_all}
+use Rattle.links_drains.proofs.Common.{◌≡◌, ℕ, ℤ, zero, suc, Bool, true, false, not, cond, refl, sym, ◌∙◌, ap, List, [], ◌∷◌, ◌++◌, take, length, ◌<◌, ◌≤◌, ◌+◌, ◌⊎◌, inl, inr, append_assoc, length-append, map, subst, arith, Option, Some, None, option_map, is_none, is_some, slice_get, option_map_or, prefix_len, list_any, enumerate_from, common_steps, length-take-le, take_all, gets, slice_get-map, Sqe, Row, Keeps, named, keeps_then, WorldState, previous_in, chain_of, error_at, error_of, errors_of, row_of, rows_of, target_of, up_to_failure, is_linked, ChainContinues, table_owns, table_seen, new_row}
 use Rattle.std.proofs.lemmas.List.FromFn.{length-enumerate_from}
-use Rattle.std.proofs.lemmas.Option.{gets, slice_get-map}
-use Rattle.entries.specs.declared.entry.Sqe.{Sqe}
-use Rattle.entries.specs.declared.row.Row.{Row}
 use Rattle.places.specs.Notes.{Notes}
 use Rattle.places.specs.declared.place.Place.{Place}
-use Rattle.places.specs.View.{Keeps, named}
-use Rattle.places.proofs.Keeping.{keeps_then}
-use Rattle.model_files.specs.Worlds.{WorldState}
 use Rattle.opcodes.specs.Check.{time_of}
-use Rattle.links_drains.specs.Batches.{previous_in, chain_of, error_at, error_of, errors_of, row_of, rows_of, target_of, up_to_failure}
-use Rattle.links_drains.specs.Links.{is_linked, ChainContinues}
-use Rattle.links_drains.specs.Rows.{table_owns, table_seen, new_row}
 use Rattle.links_drains.proofs.Chains.{enumerated, get-batch}
 use Rattle.links_drains.proofs.RowsKept.{length-push, get-pushed}
 
 -- ---- The entries up to the first that fails
 
 pub length_mapped : {X Y : Type 0} (f : X → Y) (xs : List X) → length (map f xs) ≡ length xs
-length_mapped f [] = refl
-length_mapped f (x ∷ xs) = ap suc (length_mapped f xs)
+length_mapped = grind (arith, common_steps)
 
 pub prefix_on : {X : Type 0} (p : X → Bool) (xs : List X) (i : ℕ) (x : X) → i ≤ prefix_len p xs → slice_get xs i ≡ Some x → p x ≡ true → i + 1 ≤ prefix_len p xs
 prefix_on p [] i x h g t = absurd cc
@@ -51,14 +36,10 @@ pub length-errors : (w : WorldState) (es : List Sqe) → length (errors_of w es)
 length-errors w es = length_mapped (λ (p : ℕ × Sqe). error_of w es p.0 p.1) (enumerate_from 0 es) ∙ length-enumerate_from 0 es
 
 pub get-errors : (w : WorldState) (es : List Sqe) (i : ℕ) (e : Sqe) → slice_get es i ≡ Some e → slice_get (errors_of w es) i ≡ Some (error_at w es i)
-get-errors w es i e g =
-    slice_get-map (λ (p : ℕ × Sqe). error_of w es p.0 p.1) (enumerate_from 0 es) i
-    ∙ ap (option_map (λ (p : ℕ × Sqe). error_of w es p.0 p.1)) (enumerated es i ∙ ap (option_map (λ (x : Sqe). (i, x))) g)
-    ∙ sym (ap (λ o. Some (option_and_then (error_of w es i) o)) g)
+get-errors = grind (arith, slice_get-map, enumerated)
 
 none_or_some : (o : Option ℤ) → is_none o ≡ not (is_some o)
-none_or_some None = refl
-none_or_some (Some x) = refl
+none_or_some = grind arith
 
 -- After an entry that doesn't fail.
 pub errors_on : (w : WorldState) (es : List Sqe) (i : ℕ) (e : Sqe) → i ≤ prefix_len is_none (errors_of w es) → slice_get es i ≡ Some e → is_some (error_at w es i) ≡ false → i + 1 ≤ prefix_len is_none (errors_of w es)
@@ -72,11 +53,7 @@ ends_with_failure w es i e h g f = sym (ap (λ n. take (n + 1) es) (prefix_end i
 fails_among : (xs : List (Option ℤ)) (i : ℕ) (o : Option ℤ) → slice_get xs i ≡ Some o → is_some o ≡ true → list_any is_some xs ≡ true
 fails_among [] i o g f = absurd cc
 fails_among (x ∷ xs) zero o g f = let e : x ≡ o = cc in rw (e, f) refl
-fails_among (x ∷ xs) (suc i) o g f = rw (fails_among xs i o g f) (by (is_some x))
-  where
-    by : (b : Bool) → (b || true) ≡ true
-    by true = refl
-    by false = refl
+fails_among (x ∷ xs) (suc i) o g f = grind (arith, fails_among xs i o g f)
 
 none_fails : (xs : List (Option ℤ)) → length xs ≤ prefix_len is_none xs → list_any is_some xs ≡ false
 none_fails [] h = refl
@@ -112,14 +89,11 @@ pub record Adding (w : WorldState) (before now : List Row) (old new : Notes) (en
   pub completions : old.completions ≤ new.completions
 
 pub count_added : (w : WorldState) (before now : List Row) (old new : Notes) (es : List Sqe) (i unit : ℕ) (begins : Bool) → Adding w before now old new es i unit begins → i ≤ length es → length now ≡ length before + i
-count_added w before now old new es i unit begins t h =
-    ap length t.rows ∙ length-append before (take i (rows_of w (length before) es))
-    ∙ ap (λ n. length before + n) (length-take-le i (rows_of w (length before) es) (let n = length-rows_of w (length before) es in omega (arith, n, h)))
+count_added = grind (arith, length-append, length-take-le, length-rows_of)
 
 -- All entries have become rows.
 pub all_added : (w : WorldState) (before now : List Row) (old new : Notes) (es : List Sqe) (i unit : ℕ) (begins : Bool) → Adding w before now old new es i unit begins → length es ≤ i → now ≡ before ++ rows_of w (length before) es
-all_added w before now old new es i unit begins t h =
-    t.rows ∙ ap (λ rs. before ++ rs) (take_all i (rows_of w (length before) es) (let n = length-rows_of w (length before) es in omega (arith, n, h)))
+all_added = grind (arith, take_all, length-rows_of)
 
 -- The next row begins a chain, or belongs to the last row's.
 pub next_continues : (w : WorldState) (before now : List Row) (old new : Notes) (es : List Sqe) (i unit here : ℕ) (begins : Bool) (row : Row) → Adding w before now old new es i unit begins → i ≤ length es
@@ -166,9 +140,7 @@ adding_on w before now later old new newer es i unit here begins e row t g u r h
 -- The row of an entry, by its fields.
 pub row_is_row_of : (w : WorldState) (first : ℕ) (es : List Sqe) (i unit : ℕ) (x e : Sqe) (previous time target : Option ℕ) (row : Row) → row ≡ new_row x unit time target → time ≡ time_of w previous x → previous ≡ previous_in es i
     → target ≡ target_of w first es i e → x ≡ e → row ≡ new_row e unit (time_of w (previous_in es i) e) (target_of w first es i e)
-row_is_row_of w first es i unit x e previous time target row r t b g same =
-    r ∙ ap (λ z. new_row x unit z target) (t ∙ ap (λ c. time_of w c x) b) ∙ ap (new_row x unit (time_of w (previous_in es i) x)) g
-    ∙ ap (λ y. new_row y unit (time_of w (previous_in es i) y) (target_of w first es i e)) same
+row_is_row_of = grind arith
 
 -- There is an entry at each index within the batch.
 pub element_there : (es : List Sqe) (i : ℕ) → i < length es → (e : Sqe) × (slice_get es i ≡ Some e)

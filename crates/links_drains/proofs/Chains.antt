@@ -1,28 +1,12 @@
 -- Chains remain contiguous when the table changes.
-use Rattle.std.proofs.Common.{◌≡◌, ℕ, zero, suc, Bool, true, false, cond, refl, sym, ◌∙◌, ap, List, [], ◌∷◌, ◌++◌, length, take, ◌+◌, ◌-◌, ◌<◌, ◌≤◌, ◌⊎◌, inl, inr, arith}
-use Rattle.std.specs.Prelude.{Option, Some, None, option_map, slice_get, ◌==◌}
-use Rattle.std.specs.Option.{option_map_or}
-use Rattle.std.specs.List.{enumerate_from}
-use Rattle.std.proofs.lemmas.Bool.{cases_lt}
-use Rattle.std.proofs.lemmas.Option.{slice_get-map, slice_get_within}
-use Rattle.entries.specs.declared.entry.Sqe.{Sqe}
-use Rattle.entries.specs.declared.row.Row.{Row}
-use Rattle.places.specs.Lists.{updated}
-use Rattle.places.proofs.ListLemmas.{slice_get-take_below, slice_get-take_above}
-use Rattle.model_files.specs.Worlds.{WorldState}
-use Rattle.links_drains.specs.Batches.{chain_of, row_of, rows_of}
-use Rattle.links_drains.specs.Links.{is_linked, Chained}
+use Rattle.links_drains.proofs.Common.{◌≡◌, ℕ, zero, suc, Bool, true, false, cond, refl, sym, ◌∙◌, ap, List, [], ◌∷◌, ◌++◌, length, take, ◌+◌, ◌-◌, ◌<◌, ◌≤◌, ◌⊎◌, inl, inr, arith, Option, Some, None, option_map, slice_get, option_map_or, enumerate_from, cases_lt, slice_get-map, slice_get_within, Sqe, Row, updated, slice_get-take_below, slice_get-take_above, WorldState, chain_of, row_of, rows_of, is_linked, Chained}
 use Rattle.links_drains.proofs.RowsKept.{get-updated}
 
 -- ---- Chains of a batch
 
 pub chain_before : (es : List Sqe) (i : ℕ) → chain_of es i ≤ i
 chain_before es zero = omega arith
-chain_before es (suc i) = by (option_map_or is_linked (slice_get es i) false) (chain_before es i)
-  where
-    by : (b : Bool) → chain_of es i ≤ i → cond b (chain_of es i) (suc i) ≤ suc i
-    by true h = omega (arith, h)
-    by false h = omega arith
+chain_before es (suc i) = grind (arith, chain_before es i)
 
 -- All entries from the chain's first up to i belong to it.
 pub chain_run : (es : List Sqe) (i j : ℕ) → chain_of es i ≤ j → j ≤ i → chain_of es j ≡ chain_of es i
@@ -45,14 +29,7 @@ pub enumerated : {X : Type 0} (xs : List X) (i : ℕ) → slice_get (enumerate_f
 enumerated {X} xs i = let m : 0 + i ≡ i = omega arith in enumerated_from 0 xs i ∙ ap (λ k. option_map (λ (y : X). (k, y)) (slice_get xs i)) m
 
 pub get-batch : (w : WorldState) (first : ℕ) (es : List Sqe) (i : ℕ) → slice_get (rows_of w first es) i ≡ option_map (row_of w first es i) (slice_get es i)
-get-batch w first es i = slice_get-map row (enumerate_from 0 es) i ∙ ap (option_map row) (enumerated es i) ∙ joined (slice_get es i)
-  where
-    row : ℕ × Sqe → Row
-    row p = row_of w first es p.0 p.1
-
-    joined : (o : Option Sqe) → option_map row (option_map (λ e. (i, e)) o) ≡ option_map (row_of w first es i) o
-    joined None = refl
-    joined (Some e) = refl
+get-batch = grind (arith, slice_get-map, enumerated)
 
 -- A row of a batch results from one of its entries.
 pub record Became (w : WorldState) (first : ℕ) (es : List Sqe) (i : ℕ) (row : Row) : Type 0 where
@@ -130,12 +107,7 @@ record Was (rows : List Row) (r unit : ℕ) : Type 0 where
   pub same : unit ≡ row.unit
 
 was : (f : Row → Row) (rows : List Row) (i : ℕ) → ((x : Row) → (f x).unit ≡ x.unit) → (r : ℕ) (x : Row) → slice_get (updated f rows i) r ≡ Some x → Was rows r x.unit
-was f rows i same r x h = by (i == r) (slice_get rows r) refl (sym (get-updated f rows i r) ∙ h)
-  where
-    by : (b : Bool) (o : Option Row) → slice_get rows r ≡ o → cond b (option_map f o) o ≡ Some x → Was rows r x.unit
-    by true None e k = absurd cc
-    by true (Some y) e k = let m : f y ≡ x = cc in record { row = y; there = e; same = ap (λ (z : Row). z.unit) (sym m) ∙ same y }
-    by false o e k = record { row = x; there = e ∙ k; same = refl }
+was = grind (arith, get-updated)
 
 -- A row changes, but not its chain.
 pub chained-updated : (f : Row → Row) (rows : List Row) (i : ℕ) → ((x : Row) → (f x).unit ≡ x.unit) → Chained rows → Chained (updated f rows i)
@@ -156,14 +128,4 @@ chained-updated f rows i same c = record {
 
 -- Rows are dropped from the end.
 pub chained-take : (rows : List Row) (n : ℕ) → Chained rows → Chained (take n rows)
-chained-take rows n c = record {
-  back = λ r x h. c.back r x (kept r x h);
-  run = λ q r y x g h l k. c.run q r y x (kept q y g) (kept r x h) l k;
-}
-  where
-    kept : (r : ℕ) (x : Row) → slice_get (take n rows) r ≡ Some x → slice_get rows r ≡ Some x
-    kept r x h = by (cases_lt r n)
-      where
-        by : (r < n) ⊎ (n ≤ r) → slice_get rows r ≡ Some x
-        by (inl less) = sym (slice_get-take_below rows n r less) ∙ h
-        by (inr le) = absurd (let e = slice_get-take_above rows n r le in cc)
+chained-take = grind (arith, cases_lt, slice_get-take_below, slice_get-take_above)

@@ -1,41 +1,20 @@
 -- How the counts of completed requests change with the table.
-use Rattle.std.proofs.Common.{◌≡◌, ℕ, ℤ, zero, suc, Bool, true, false, cond, ◌∙◌, ap, List, [], ◌∷◌, ◌++◌, length, ◌+◌, ◌≤◌, arith}
-use Rattle.std.specs.Prelude.{Some, slice_get, ◌&&◌}
-use Rattle.std.specs.List.{filter}
+use Rattle.links_drains.proofs.Common.{◌≡◌, ℕ, ℤ, zero, suc, Bool, true, false, cond, List, [], ◌∷◌, ◌++◌, length, ◌+◌, ◌≤◌, arith, Some, slice_get, ◌&&◌, filter, Ended, Row, updated, is_ended, counts, counted_of, ended_of, common_steps}
 use Rattle.std.proofs.lemmas.List.Sums.{length-filter, count_by-le-length}
-use Rattle.entries.specs.declared.row.Phase.TheVariants.{Ended}
-use Rattle.entries.specs.declared.row.Row.{Row}
-use Rattle.places.specs.Lists.{updated}
-use Rattle.links_drains.specs.Phases.{is_ended, counts, counted_of, ended_of}
 
 -- ---- Counts of rows that pass a test
 
 pub matching-more : (p : Row → Bool) (row : Row) (rows : List Row) → length (filter p (row ∷ rows)) ≡ cond (p row) 1 0 + length (filter p rows)
-matching-more p row rows = by (p row)
-  where
-    by : (b : Bool) → length (cond b (row ∷ filter p rows) (filter p rows)) ≡ cond b 1 0 + length (filter p rows)
-    by true = omega arith
-    by false = omega arith
+matching-more = grind arith
 
 pub matching-append : (p : Row → Bool) (rows others : List Row) → length (filter p (rows ++ others)) ≡ length (filter p rows) + length (filter p others)
-matching-append p [] others = omega arith
-matching-append p (row ∷ rows) others =
-    matching-more p row (rows ++ others) ∙ ap (λ n. cond (p row) 1 0 + n) (matching-append p rows others)
-    ∙ omega (arith, matching-more p row rows)
+matching-append = grind (arith, common_steps)
 
 pub matching-updated : (p : Row → Bool) (f : Row → Row) (rows : List Row) (i : ℕ) (row : Row) → slice_get rows i ≡ Some row →
     length (filter p (updated f rows i)) + cond (p row) 1 0 ≡ length (filter p rows) + cond (p (f row)) 1 0
 matching-updated p f [] i row h = absurd cc
-matching-updated p f (x ∷ rows) zero row h =
-    let e : x ≡ row = cc in
-    let a = matching-more p (f x) rows in
-    let b = matching-more p x rows in
-    rw (← e) (omega (arith, a, b))
-matching-updated p f (x ∷ rows) (suc i) row h =
-    let a = matching-more p x (updated f rows i) in
-    let b = matching-more p x rows in
-    let k = matching-updated p f rows i row h in
-    omega (arith, a, b, k)
+matching-updated p f (x ∷ rows) zero row h = grind arith
+matching-updated p f (x ∷ rows) (suc i) row h = grind (arith, matching-updated p f rows i row h)
 
 pub matching-le-length : (p : Row → Bool) (rows : List Row) → length (filter p rows) ≤ length rows
 matching-le-length p rows = omega (arith, length-filter p rows, count_by-le-length p rows)

@@ -1,13 +1,5 @@
 -- The requests of a batch that complete as they are submitted.
-use Rattle.std.proofs.Common.{◌≡◌, ℕ, ℤ, true, cond, refl, sym, ◌∙◌, ap, List, ◌++◌, length, ◌+◌, ◌-◌, arith}
-use Rattle.std.specs.Prelude.{Option, Some, None, slice_get}
-use Rattle.std.specs.Option.{option_and_then}
-use Rattle.entries.specs.declared.entry.Sqe.{Sqe}
-use Rattle.entries.specs.declared.row.Row.{Row}
-use Rattle.model_files.specs.Worlds.{WorldState}
-use Rattle.links_drains.specs.Batches.{error_at, rows_of, direct_result, direct_of}
-use Rattle.links_drains.specs.Endings.{or_else, result_in, Direct}
-use Rattle.links_drains.specs.Phases.{is_unfinished}
+use Rattle.links_drains.proofs.Common.{◌≡◌, ℕ, ℤ, true, cond, ◌∙◌, ap, List, ◌++◌, length, ◌+◌, ◌-◌, arith, Option, Some, None, slice_get, option_and_then, Sqe, Row, WorldState, error_at, rows_of, direct_result, direct_of, result_in, Direct, is_unfinished}
 use Rattle.links_drains.proofs.Chains.{became, get-appended}
 use Rattle.links_drains.proofs.Listing.{result_of, listed_from}
 use Rattle.links_drains.proofs.Rising.{ends_from, rising_from}
@@ -43,8 +35,4 @@ direct_at w first es i row h =
 
 -- A request that isn't listed is valid.
 pub unlisted_passes : (w : WorldState) (first : ℕ) (es : List Sqe) (i : ℕ) (row : Row) → slice_get (rows_of w first es) i ≡ Some row → result_in (direct_of w first es) (first + i) ≡ None → error_at w es i ≡ None
-unlisted_passes w first es i row h k = first_none (error_at w es i) _ (sym (direct_at w first es i row h) ∙ k)
-  where
-    first_none : (a b : Option ℤ) → or_else a b ≡ None → a ≡ None
-    first_none None b e = refl
-    first_none (Some x) b e = absurd cc
+unlisted_passes = grind (arith, direct_at)

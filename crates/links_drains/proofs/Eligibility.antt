@@ -1,17 +1,7 @@
 -- Whether a request may be issued, decided from the smallest numbers in the index's sets.
-use Rattle.std.proofs.Common.{◌≡◌, ℕ, ◌<◌, ◌≤◌, Bool, true, false, not, refl, sym, ◌∙◌, ap, List, ◌⊎◌, inl, inr, arith}
-use Rattle.std.specs.Prelude.{Option, Some, None, option_map, slice_get, ◌&&◌, ◌||◌, MatchBool}
-use Rattle.std.specs.List.{list_any, enumerate_from}
-use Rattle.std.proofs.lemmas.Bool.{cases_eq, cases_lt, cases_Bool, eq-eqb, eqb-true, ltb-true, lt-ltb, both_ways, and_from, and_parts, or_from, or_cases, or_left, or_right}
+use Rattle.links_drains.proofs.Common.{◌≡◌, ℕ, ◌<◌, ◌≤◌, Bool, true, false, not, refl, sym, ◌∙◌, ap, List, ◌⊎◌, inl, inr, arith, Option, Some, None, option_map, slice_get, ◌&&◌, ◌||◌, MatchBool, list_any, enumerate_from, cases_eq, cases_lt, cases_Bool, eq-eqb, eqb-true, ltb-true, lt-ltb, both_ways, and_from, and_parts, or_from, or_cases, or_left, or_right, Queued, Issued, Ended, Row, Indexed, is_guard, is_queued, is_unfinished, has, IsNext, is_open, is_under_way}
 use Rattle.entries.specs.declared.row.Phase.{Phase}
-use Rattle.entries.specs.declared.row.Phase.TheVariants.{Queued, Issued, Ended}
-use Rattle.entries.specs.declared.row.Row.{Row}
 use Rattle.links_drains.specs.Eligible.{drains, waits_for, is_eligible, GuardsFollow}
-use Rattle.links_drains.specs.Indexes.{Indexed}
-use Rattle.links_drains.specs.Links.{is_guard}
-use Rattle.links_drains.specs.Phases.{is_queued, is_unfinished}
-use Rattle.bit_sets.specs.Sets.{has, IsNext}
-use Rattle.links_drains.specs.Units.{is_open, is_under_way}
 use Rattle.links_drains.specs.declared.index.Index.{Index}
 use Rattle.links_drains.proofs.Chains.{enumerated}
 use Rattle.links_drains.proofs.Units.{any_true, any_false, any_of_true, any_of_found, passes_here}
@@ -156,11 +146,3 @@ module _ (rows : List Row) (index : Index) (i : Indexed rows index) (guards : Gu
         | inr own ↦ both_ways _ (drains_not drain) own
         | inl its ↦ both_ways _ (none x.unit low) (i.barriers x.unit ∙ and_from _ _ its (any_of_true is_open rows k x x.unit h refl u))
       ])
-
--- A request that isn't queued, or is a linked timeout, may not be issued.
-pub not_eligible : (rows : List Row) (r : ℕ) (row : Row) → slice_get rows r ≡ Some row → (is_queued row.phase ≡ true → is_guard row ≡ true) → false ≡ is_eligible rows r
-not_eligible rows r row here why = sym (rw here (by (is_queued row.phase) (is_guard row) _ why))
-  where
-    by : (a b c : Bool) → (a ≡ true → b ≡ true) → (a && (not b && c)) ≡ false
-    by false b c w = refl
-    by true b c w = rw (w refl) refl

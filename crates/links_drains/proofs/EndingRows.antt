@@ -1,30 +1,12 @@
 -- Requests that complete one after the other, by ascending number.
-use Rattle.std.proofs.Common.{◌≡◌, ℕ, ℤ, zero, suc, Bool, true, false, cond, refl, sym, ◌∙◌, ap, List, [], ◌∷◌, length, drop, ◌+◌, ◌<◌, ◌≤◌, arith}
-use Rattle.std.specs.Prelude.{Option, Some, None, option_map, slice_get, ◌==◌}
-use Rattle.std.specs.List.{enumerate_from}
-use Rattle.std.specs.Option.{option_map_or}
-use Rattle.std.proofs.lemmas.Bool.{eqb-true}
-use Rattle.std.proofs.lemmas.Option.{slice_get-map, slice_get_within}
-use Rattle.entries.specs.declared.row.Row.{Row}
-use Rattle.entries.specs.declared.row.Phase.TheVariants.{Ended}
-use Rattle.places.specs.Lists.{updated}
+use Rattle.links_drains.proofs.Common.{◌≡◌, ℕ, ℤ, zero, suc, Bool, true, false, cond, refl, sym, ◌∙◌, ap, List, [], ◌∷◌, length, drop, ◌+◌, ◌<◌, ◌≤◌, arith, Some, None, option_map, slice_get, ◌==◌, eqb-true, slice_get-map, slice_get_within, Row, Ended, updated, Keeps, keeps_then, same_list, Direct, Ending, ended_by, result_in, map_numbered, Stay, table_owns, table_seen, common_steps}
 use Rattle.places.specs.Notes.{Notes}
-use Rattle.places.specs.View.{Keeps}
-use Rattle.places.proofs.Keeping.{keeps_same, keeps_then}
-use Rattle.places.proofs.ListLemmas.{same_list}
-use Rattle.links_drains.specs.Endings.{Direct, Ending, ended_by, result_in}
-use Rattle.links_drains.specs.Numbered.{map_numbered}
-use Rattle.links_drains.specs.Rows.{Stay, table_owns, table_seen}
 use Rattle.links_drains.proofs.Chains.{enumerated}
 use Rattle.links_drains.proofs.Remaining.{stay_then}
 use Rattle.links_drains.proofs.RowsKept.{get-updated}
 
 pub mapped_at : (f : ℕ → Row → Row) (rows : List Row) (i : ℕ) → slice_get (map_numbered f rows) i ≡ option_map (λ row. f i row) (slice_get rows i)
-mapped_at f rows i = slice_get-map (λ (p : ℕ × Row). f p.0 p.1) (enumerate_from 0 rows) i ∙ ap (option_map (λ (p : ℕ × Row). f p.0 p.1)) (enumerated rows i) ∙ by (slice_get rows i)
-  where
-    by : (o : Option Row) → option_map (λ (p : ℕ × Row). f p.0 p.1) (option_map (λ row. (i, row)) o) ≡ option_map (λ row. f i row) o
-    by None = refl
-    by (Some row) = refl
+mapped_at = grind (arith, slice_get-map, enumerated)
 
 -- The requests from index i on, of a list.
 cut_at : (es : List Ending) (i : ℕ) (e : Ending) → slice_get es i ≡ Some e → drop i es ≡ e ∷ drop (suc i) es
@@ -38,10 +20,7 @@ drop_at [] (suc i) j = refl
 drop_at (x ∷ es) (suc i) j = drop_at es i j ∙ sym (ap (slice_get (x ∷ es)) (let n : suc i + j ≡ suc (i + j) = omega arith in n))
 
 all_dropped : (es : List Ending) (i : ℕ) → length es ≤ i → drop i es ≡ []
-all_dropped [] zero h = refl
-all_dropped [] (suc i) h = refl
-all_dropped (x ∷ es) zero h = absurd (omega (arith, h))
-all_dropped (x ∷ es) (suc i) h = all_dropped es i (omega (arith, h))
+all_dropped = grind (arith, common_steps)
 
 not_listed : (es : List Ending) (r : ℕ) → ((j : ℕ) (p : Ending) → slice_get es j ≡ Some p → r < p.0) → result_in es r ≡ None
 not_listed [] r h = refl
@@ -57,25 +36,10 @@ ending res row = record row { phase = Ended res }
 
 -- The first request completes, then the others.
 pub first_ended : (rows : List Row) (e : Ending) (es : List Ending) → result_in es e.0 ≡ None → map_numbered (ended_by es) (updated (ending e.1) rows e.0) ≡ map_numbered (ended_by (e ∷ es)) rows
-first_ended rows e es once = same_list _ _ (λ i. mapped_at (ended_by es) (updated (ending e.1) rows e.0) i ∙ ap (option_map (λ row. ended_by es i row)) (get-updated (ending e.1) rows e.0 i) ∙ by i (e.0 == i) refl (slice_get rows i) ∙ sym (mapped_at (ended_by (e ∷ es)) rows i))
-  where
-    by : (i : ℕ) (b : Bool) → (e.0 == i) ≡ b → (o : Option Row) → option_map (λ row. ended_by es i row) (cond b (option_map (ending e.1) o) o) ≡ option_map (λ row. option_map_or (λ res. ending res row) (cond (e.0 == i) (Some e.1) (result_in es i)) row) o
-    by i b k None = none b
-      where
-        none : (c : Bool) → option_map (λ row. ended_by es i row) (cond c None None) ≡ None
-        none true = refl
-        none false = refl
-    by i true k (Some row) =
-        ap (λ o. Some (option_map_or (λ res. ending res row) o (ending e.1 row))) (ap (result_in es) (sym (eqb-true e.0 i k)) ∙ once)
-        ∙ sym (ap (λ c. Some (option_map_or (λ res. ending res row) (cond c (Some e.1) (result_in es i)) row)) k)
-    by i false k (Some row) = sym (ap (λ c. Some (option_map_or (λ res. ending res row) (cond c (Some e.1) (result_in es i)) row)) k)
+first_ended = grind (arith, same_list, mapped_at, get-updated, eqb-true)
 
 pub none_ended : (rows : List Row) → map_numbered (ended_by []) rows ≡ rows
-none_ended rows = same_list _ rows (λ i. mapped_at (ended_by []) rows i ∙ by i (slice_get rows i))
-  where
-    by : (i : ℕ) (o : Option Row) → option_map (λ row. ended_by [] i row) o ≡ o
-    by i None = refl
-    by i (Some row) = refl
+none_ended = grind (arith, same_list, mapped_at)
 
 -- ---- One by one
 
@@ -90,33 +54,9 @@ pub record EndingRows (before now : List Row) (old new : Notes) (es : List Endin
   pub completions : old.completions ≤ new.completions
   pub others : old.others ≤ new.others + i
 
-pub ending_none : (rows : List Row) (old new : Notes) (es : List Ending) → new.made ≡ old.made → old.numbers ≤ new.numbers → old.completions ≤ new.completions → old.others ≤ new.others → EndingRows rows rows old new es 0
-ending_none rows old new es made numbers completions others = record {
-  few = omega arith;
-  rows = refl;
-  len = refl;
-  stay = λ r l. refl;
-  keeps = rw made (keeps_same table_owns (table_seen rows) old.made);
-  numbers = numbers;
-  completions = completions;
-  others = omega (arith, others);
-}
-
 pub ending_on : (before now later : List Row) (old new newer : Notes) (es : List Ending) (i : ℕ) (e : Ending) → EndingRows before now old new es i → Direct before es → slice_get es i ≡ Some e → later ≡ updated (ending e.1) now e.0
     → length later ≡ length now → Stay now later → Keeps table_owns (table_seen now) (table_seen later) new.made newer.made → new.numbers ≤ newer.numbers → new.completions ≤ newer.completions → new.others ≤ newer.others + 1 → EndingRows before later old newer es (i + 1)
-ending_on before now later old new newer es i e t direct g is len stay keeps numbers completions others = record {
-  few = let n = slice_get_within es i e g in omega (arith, n);
-  rows = ap (λ n. map_numbered (ended_by (drop n es)) later) (let n : i + 1 ≡ suc i = omega arith in n) ∙ ap (map_numbered (ended_by (drop (suc i) es))) is ∙ first_ended now e (drop (suc i) es) once ∙ ap (λ xs. map_numbered (ended_by xs) now) (sym (cut_at es i e g)) ∙ t.rows;
-  len = len ∙ t.len;
-  stay = stay_then before now later (let n = t.len in omega (arith, n)) t.stay stay;
-  keeps = keeps_then table_owns (table_seen before) (table_seen now) (table_seen later) old.made new.made newer.made t.keeps keeps;
-  numbers = let n = t.numbers in omega (arith, n, numbers);
-  completions = let n = t.completions in omega (arith, n, completions);
-  others = let n = t.others in omega (arith, n, others);
-}
-  where
-    once : result_in (drop (suc i) es) e.0 ≡ None
-    once = not_listed (drop (suc i) es) e.0 (λ j p k. direct.rising i (suc i + j) e p g (sym (drop_at es (suc i) j) ∙ k) (omega arith))
+ending_on = grind (arith, slice_get_within, first_ended, cut_at, stay_then, keeps_then, not_listed, drop_at)
 
 pub ending_done : (before now : List Row) (old new : Notes) (es : List Ending) (i : ℕ) → EndingRows before now old new es i → length es ≤ i → now ≡ map_numbered (ended_by es) before
 ending_done before now old new es i t h = sym (none_ended now) ∙ ap (λ xs. map_numbered (ended_by xs) now) (sym (all_dropped es i h)) ∙ t.rows

@@ -1,20 +1,7 @@
 -- The requests of a batch that complete as they are submitted, computed row by row.
-use Rattle.std.proofs.Common.{◌≡◌, ℕ, ℤ, zero, suc, Bool, true, false, cond, refl, sym, ◌∙◌, ap, List, [], ◌∷◌, ◌++◌, take, drop, length, replicate, get_or, ◌<◌, ◌≤◌, ◌+◌, ◌-◌, arith}
-use Rattle.std.specs.Prelude.{Option, Some, None, option_map, is_some, slice_get, slice_set, ◌==◌, ◌&&◌, ◌||◌}
-use Rattle.std.specs.Option.{option_and_then}
-use Rattle.std.specs.List.{cons_option, list_any, enumerate_from}
-use Rattle.std.proofs.lemmas.Bool.{eq-eqb, eqb-true, ne_eqb, and_left, and_right}
-use Rattle.std.proofs.lemmas.List.{get_or-drop, length-drop, length-set, length-replicate, length-take-le, take_all}
+use Rattle.links_drains.proofs.Common.{◌≡◌, ℕ, ℤ, zero, suc, Bool, true, false, cond, refl, sym, ◌∙◌, ap, List, [], ◌∷◌, ◌++◌, take, drop, length, replicate, get_or, ◌<◌, ◌≤◌, ◌+◌, ◌-◌, arith, Option, Some, None, option_map, is_some, slice_get, slice_set, ◌==◌, ◌&&◌, ◌||◌, option_and_then, cons_option, list_any, enumerate_from, eq-eqb, eqb-true, ne_eqb, and_left, and_right, get_or-drop, length-drop, length-set, length-replicate, length-take-le, take_all, slice_get-get_or, get_or_from_slice_get, Sqe, Row, slice_get-set, WorldState, chain_fails, chain_of, error_at, error_of, rows_of, direct_result, ecanceled, given, or_else, paired, endings_from, is_unfinished}
 use Rattle.std.proofs.lemmas.List.FromFn.{length-enumerate_from}
 use Rattle.std.proofs.lemmas.List.Folds.{list_any-append}
-use Rattle.std.proofs.lemmas.Option.{slice_get-get_or, get_or_from_slice_get}
-use Rattle.entries.specs.declared.entry.Sqe.{Sqe}
-use Rattle.entries.specs.declared.row.Row.{Row}
-use Rattle.places.proofs.ListLemmas.{slice_get-set}
-use Rattle.model_files.specs.Worlds.{WorldState}
-use Rattle.links_drains.specs.Batches.{chain_fails, chain_of, error_at, error_of, rows_of, direct_result}
-use Rattle.links_drains.specs.Endings.{Ending, ecanceled, given, or_else, paired, endings_from}
-use Rattle.links_drains.specs.Phases.{is_unfinished}
 use Rattle.links_drains.proofs.Batching.{element_there, length-rows_of, take_more}
 use Rattle.links_drains.proofs.Chains.{became, chain_before, enumerated}
 use Rattle.links_drains.proofs.Listing.{result_of, endings_step}
@@ -64,14 +51,10 @@ error_here : (w : WorldState) (es : List Sqe) (i : ℕ) (e : Sqe) → slice_get 
 error_here w es i e h = ap (option_and_then (error_of w es i)) h
 
 or_none : (a b : Bool) → b ≡ false → (a || (b || false)) ≡ a
-or_none true b e = refl
-or_none false true e = absurd cc
-or_none false false e = refl
+or_none = grind arith
 
 or_some : (a b : Bool) → b ≡ true → (a || (b || false)) ≡ true
-or_some true b e = refl
-or_some false true e = refl
-or_some false false e = absurd cc
+or_some = grind arith
 
 -- `failing` says for each chain whether one of the first i entries fails in it.
 pub record FailingTo (w : WorldState) (es : List Sqe) (i : ℕ) (failing : List Bool) : Type 0 where
@@ -84,15 +67,11 @@ get-replicate (suc n) x zero h = refl
 get-replicate (suc n) x (suc i) h = get-replicate n x i (omega (arith, h))
 
 pub failing_none : (w : WorldState) (es : List Sqe) (failing : List Bool) (n : ℕ) → n ≡ length es → failing ≡ replicate n false → FailingTo w es 0 failing
-failing_none w es failing n m e = record {
-  len = ap length e ∙ length-replicate n false ∙ m;
-  each = λ u h. ap (λ (xs : List Bool). slice_get xs u) e ∙ get-replicate n false u (omega (arith, m, h));
-}
+failing_none = grind (arith, length-replicate, get-replicate)
 
 -- All entries were examined.
 pub failing_all : (w : WorldState) (es : List Sqe) (i : ℕ) (failing : List Bool) → FailingTo w es i failing → length es ≤ i → (u : ℕ) → u < length es → slice_get failing u ≡ Some (chain_fails w es u)
-failing_all w es i failing t h u l =
-    t.each u l ∙ ap (λ ps. Some (list_any (fails_in w es u) ps)) (take_all i (enumerate_from 0 es) (let n = length-enumerate_from 0 es in omega (arith, n, h)))
+failing_all = grind (arith, take_all, length-enumerate_from)
 
 -- The next entry is valid.
 pub failing_on : (w : WorldState) (es : List Sqe) (i : ℕ) (failing : List Bool) → FailingTo w es i failing → i < length es → is_some (error_at w es i) ≡ false → FailingTo w es (i + 1) failing
@@ -130,17 +109,7 @@ failing_at w es i at failing t h p m = by (element_there es i h)
 
 pub endings_more : (f : ℕ → Row → Option ℤ) (n : ℕ) (rows : List Row) (row : Row) → endings_from f n (rows ++ row ∷ []) ≡ endings_from f n rows ++ cons_option (paired (n + length rows) (result_of f (n + length rows) row)) []
 endings_more f n [] row = endings_step f n row [] ∙ (let m : n ≡ n + 0 = omega arith in ap (λ k. cons_option (paired k (result_of f k row)) []) m)
-endings_more f n (x ∷ rows) row =
-    endings_step f n x (rows ++ row ∷ []) ∙ ap (cons_option (paired n (result_of f n x))) (endings_more f (n + 1) rows row)
-    ∙ ap (λ k. cons_option (paired n (result_of f n x)) (endings_from f (n + 1) rows ++ cons_option (paired k (result_of f k row)) [])) m
-    ∙ over (paired n (result_of f n x)) (endings_from f (n + 1) rows) _ ∙ ap (λ es. es ++ cons_option (paired (n + suc (length rows)) (result_of f (n + suc (length rows)) row)) []) (sym (endings_step f n x rows))
-  where
-    m : n + 1 + length rows ≡ n + suc (length rows)
-    m = omega arith
-
-    over : (o : Option Ending) (es fs : List Ending) → cons_option o (es ++ fs) ≡ cons_option o es ++ fs
-    over None es fs = refl
-    over (Some e) es fs = refl
+endings_more f n (x ∷ rows) row = grind (arith, endings_more f (n + 1) rows row)
 
 -- The result of the next row, given whether its chain fails.
 pub ends_more : (w : WorldState) (first : ℕ) (es : List Sqe) (rows : List Row) (i : ℕ) (d : Row) (failing : List Bool) (c b : Bool) (o p : Option ℤ) → rows ≡ rows_of w first es → i < length rows

@@ -1,8 +1,5 @@
 -- Filtering a list from its beginning.
-use Rattle.std.proofs.Common.{◌≡◌, ℕ, zero, suc, Bool, true, false, cond, refl, ◌∙◌, ap, List, [], ◌∷◌, take, ◌<◌, ◌≤◌, arith}
-use Rattle.std.specs.Prelude.{Some, option_map, slice_get}
-use Rattle.std.specs.List.{filter, enumerate_from}
-use Rattle.entries.specs.declared.row.Row.{Row}
+use Rattle.links_drains.proofs.Common.{◌≡◌, ℕ, zero, suc, Bool, true, false, cond, refl, ◌∙◌, ap, List, [], ◌∷◌, take, ◌<◌, ◌≤◌, arith, Some, option_map, slice_get, filter, enumerate_from, Row}
 use Rattle.links_drains.proofs.Chains.{enumerated}
 use Rattle.links_drains.proofs.RestOfUnit.{none_before, numbered}
 

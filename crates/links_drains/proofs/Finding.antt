@@ -1,20 +1,5 @@
 -- The finder leads to every request that is sought.
-use Rattle.std.proofs.Common.{◌≡◌, ◌≢◌, ℕ, zero, suc, Bool, true, false, cond, refl, sym, ◌∙◌, ap, subst, List, [], ◌∷◌, ◌++◌, length, take, set, get_or, max, ◌+◌, ◌-◌, ◌*◌, ◌/◌, ◌%◌, ◌<◌, ◌≤◌, ◌⊎◌, inl, inr, arith}
-use Rattle.std.specs.Prelude.{Some, None, slice_get, slice_set, ◌==◌, ◌&&◌}
-use Rattle.std.proofs.lemmas.Bool.{and_left, both_ways, cases_Bool, cases_eq, cases_lt, eqb-true, ne_eqb}
-use Rattle.std.proofs.lemmas.List.{get_or-set_same, get_or-set_other, length-set, length-take}
-use Rattle.std.proofs.lemmas.Option.{slice_get_within}
-use Rattle.entries.specs.declared.entry.Sqe.{Sqe}
-use Rattle.entries.specs.declared.row.Row.{Row}
-use Rattle.model_files.specs.Holders.{is_descriptor_number}
-use Rattle.places.proofs.ListLemmas.{slice_get-set, slice_get-take_below, slice_get-take_above}
-use Rattle.bit_sets.specs.Sets.{has, IsNext, NoneFrom}
-use Rattle.links_drains.specs.Finders.{Findable, HasPlace, IsMarked, NoHolder, NoUser, hash_of, holds_now, mark_of, row_hash}
-use Rattle.links_drains.specs.Holding.{holds, is_number}
-use Rattle.links_drains.specs.Numbered.{IsNextWhere, NoneWhere}
-use Rattle.links_drains.specs.Phases.{is_issued}
-use Rattle.links_drains.specs.Rows.{fixed_of}
-use Rattle.links_drains.specs.Units.{IsNextIssued, NoneIssuedFrom}
+use Rattle.links_drains.proofs.Common.{◌≡◌, ◌≢◌, ℕ, Bool, true, false, cond, sym, ◌∙◌, ap, List, [], ◌∷◌, ◌++◌, length, take, set, get_or, max, ◌+◌, ◌-◌, ◌*◌, ◌/◌, ◌%◌, ◌<◌, ◌≤◌, ◌⊎◌, inl, inr, arith, Some, None, slice_get, slice_set, ◌==◌, ◌&&◌, and_left, both_ways, cases_Bool, cases_eq, cases_lt, eqb-true, ne_eqb, get_or-set_same, get_or-set_other, length-set, length-take, slice_get_within, Row, is_descriptor_number, slice_get-set, slice_get-take_below, slice_get-take_above, has, IsNext, NoneFrom, Findable, HasPlace, IsMarked, NoHolder, NoUser, hash_of, holds_now, mark_of, row_hash, is_number, IsNextWhere, NoneWhere, is_issued, fixed_of, IsNextIssued, NoneIssuedFrom, common_steps}
 use Rattle.links_drains.specs.declared.finder.Finder.{Finder}
 use Rattle.links_drains.proofs.Indexing.{pushed}
 use Rattle.links_drains.proofs.RowsKept.{length-push}
@@ -22,97 +7,17 @@ use Rattle.links_drains.proofs.RowsKept.{length-push}
 -- ---- Room
 
 pub findable_empty : (rows : List Row) (f : Finder) → length rows ≡ 0 → Findable rows f
-findable_empty [] f h = record {
-  room = λ l. absurd (omega (arith, l));
-  last = λ r row g. absurd cc;
-  previous = λ q r other row g k. absurd cc;
-  holding = λ r fd row g. absurd cc;
-}
-findable_empty (x ∷ rows) f h = absurd (omega (arith, h))
-
--- A number 0 past the end of a list changes no item.
-pub zero_pushed : (xs : List ℕ) (i : ℕ) → get_or (xs ++ 0 ∷ []) i 0 ≡ get_or xs i 0
-zero_pushed [] zero = refl
-zero_pushed [] (suc i) = refl
-zero_pushed (x ∷ xs) zero = refl
-zero_pushed (x ∷ xs) (suc i) = zero_pushed xs i
-
--- Room for a link was made.
-pub findable_room : (rows : List Row) (f g : Finder) → Findable rows f → g.last ≡ f.last → g.holding ≡ f.holding → g.previous ≡ f.previous ++ 0 ∷ [] → Findable rows g
-findable_room rows f g h last holding previous = record {
-  room = λ l. let p = h.room l in record {
-    last = let n = ap length last in let k = p.last in omega (arith, n, k);
-    previous = let n = ap length previous ∙ length-pushed f.previous in let k = p.previous in omega (arith, n, k);
-    holding = let n = ap length holding in let k = p.holding in omega (arith, n, k);
-  };
-  last = λ r row k. rw last (h.last r row k);
-  previous = λ q r other row a b l e. let n = ap (λ xs. get_or xs r 0) previous ∙ zero_pushed f.previous r in let k = h.previous q r other row a b l e in omega (arith, n, k);
-  holding = λ r fd row k e. ap (λ (w : List ℕ). has w (mark_of fd r)) holding ∙ h.holding r fd row k e;
-}
-  where
-    length-pushed : (xs : List ℕ) → length (xs ++ 0 ∷ []) ≡ length xs + 1
-    length-pushed [] = refl
-    length-pushed (x ∷ xs) = let n = length-pushed xs in omega (arith, n)
+findable_empty = grind (arith, common_steps)
 
 -- There is room for each request.
 pub place_at : (rows : List Row) (r : ℕ) (f : Finder) → r < length rows → Findable rows f → HasPlace (r + 1) f
-place_at rows r f within h =
-    let p = h.room (omega (arith, within)) in
-    record { last = p.last; previous = let n = p.previous in omega (arith, n, within); holding = p.holding }
+place_at = grind arith
 
 -- ---- A request is added
 
 pub findable_push : (rows : List Row) (row : Row) (r : ℕ) (f g h : Finder) → HasPlace (r + 1) f → length rows ≡ r → Findable rows f
     → g.last ≡ set f.last (row_hash row) (r + 1) → g.previous ≡ set f.previous r (get_or f.last (row_hash row) 0) → g.holding ≡ f.holding → IsMarked r row g h → Findable (rows ++ row ∷ []) h
-findable_push rows row r f g h place n old last previous holding m = record {
-  room = λ l. record {
-    last = let a = ap length lasts ∙ length-set f.last (row_hash row) (r + 1) in let b = place.last in omega (arith, a, b);
-    previous = let a = ap length links ∙ length-set f.previous r (get_or f.last (row_hash row) 0) in let b = place.previous in let c = length-push rows row in omega (arith, a, b, c, n);
-    holding = let a = m.room in let b = ap length holding in let c = place.holding in omega (arith, a, b, c);
-  };
-  last = λ q x k. last_at q x (pushed rows row q x k);
-  previous = λ q p y x a b l e. previous_at q p y x (pushed rows row q y a) (pushed rows row p x b) l e;
-  holding = λ q fd x k e. holding_at q fd x (pushed rows row q x k) e;
-}
-  where
-    lasts : h.last ≡ set f.last (row_hash row) (r + 1)
-    lasts = m.last ∙ last
-
-    links : h.previous ≡ set f.previous r (get_or f.last (row_hash row) 0)
-    links = m.previous ∙ previous
-
-    hashed : row_hash row < length f.last
-    hashed = let a = place.last in omega (arith, a)
-
-    last_here : get_or h.last (row_hash row) 0 ≡ r + 1
-    last_here = ap (λ xs. get_or xs (row_hash row) 0) lasts ∙ get_or-set_same f.last (row_hash row) (r + 1) 0 hashed
-
-    last_at : (q : ℕ) (x : Row) → (slice_get rows q ≡ Some x) ⊎ ((q ≡ length rows) × (row ≡ x)) → q < get_or h.last (row_hash x) 0
-    last_at q x (inl k) = elim (cases_eq (row_hash x) (row_hash row)) [
-      | inl same ↦ let w = slice_get_within rows q x k in let e = ap (λ i. get_or h.last i 0) same ∙ last_here in omega (arith, w, e, n)
-      | inr other ↦ let e = ap (λ xs. get_or xs (row_hash x) 0) lasts ∙ get_or-set_other f.last (row_hash row) (row_hash x) (r + 1) 0 other in let o = old.last q x k in omega (arith, e, o)
-    ]
-    last_at q x (inr k) = let e = ap (λ (y : Row). get_or h.last (row_hash y) 0) (sym k.1) ∙ last_here in let a = k.0 in omega (arith, e, a, n)
-
-    previous_at : (q p : ℕ) (y x : Row) → (slice_get rows q ≡ Some y) ⊎ ((q ≡ length rows) × (row ≡ y)) → (slice_get rows p ≡ Some x) ⊎ ((p ≡ length rows) × (row ≡ x)) → q < p → row_hash y ≡ row_hash x → q < get_or h.previous p 0
-    previous_at q p y x (inl a) (inl b) l e =
-        let w = slice_get_within rows p x b in
-        let k = ap (λ xs. get_or xs p 0) links ∙ get_or-set_other f.previous r p (get_or f.last (row_hash row) 0) 0 (λ s. absurd (omega (arith, s, w, n))) in
-        let o = old.previous q p y x a b l e in
-        omega (arith, k, o)
-    previous_at q p y x (inl a) (inr b) l e =
-        let at : p ≡ r = b.0 ∙ n in
-        let k = ap (λ xs. get_or xs r 0) links ∙ get_or-set_same f.previous r (get_or f.last (row_hash row) 0) 0 (let d = place.previous in omega (arith, d)) in
-        let o = old.last q y a in
-        let s = ap (λ i. get_or f.last i 0) (e ∙ ap row_hash (sym b.1)) in
-        let t = ap (λ i. get_or h.previous i 0) at in
-        omega (arith, k, o, s, t)
-    previous_at q p y x (inr a) (inl b) l e = absurd (let w = slice_get_within rows p x b in let d = a.0 in omega (arith, w, d, l))
-    previous_at q p y x (inr a) (inr b) l e = absurd (let c = b.0 in let d = a.0 in omega (arith, c, d, l))
-
-    holding_at : (q fd : ℕ) (x : Row) → (slice_get rows q ≡ Some x) ⊎ ((q ≡ length rows) × (row ≡ x)) → holds fd x ≡ true → has h.holding (mark_of fd q) ≡ true
-    holding_at q fd x (inl k) e = m.others (mark_of fd q) (ap (λ (w : List ℕ). has w (mark_of fd q)) holding ∙ old.holding q fd x k e)
-    holding_at q fd x (inr k) e = ap (λ i. has h.holding (mark_of fd i)) (k.0 ∙ n) ∙ m.mark fd (ap (holds fd) k.1 ∙ e)
+findable_push = grind (arith, length-set, length-push, pushed, get_or-set_same, cases_eq, slice_get_within, get_or-set_other)
 
 -- ---- A request is replaced
 
@@ -123,40 +28,15 @@ record Was (rows : List Row) (q : ℕ) (x : Row) : Type 0 where
   pub hash : row_hash row ≡ row_hash x
 
 was : (rows : List Row) (r : ℕ) (before after : Row) → slice_get rows r ≡ Some before → fixed_of after ≡ fixed_of before → (q : ℕ) (x : Row) → slice_get (slice_set rows r after) q ≡ Some x → Was rows q x
-was rows r before after g same q x h = by (r == q) refl (sym (slice_get-set rows r q after (slice_get_within rows r before g)) ∙ h)
-  where
-    by : (b : Bool) → (r == q) ≡ b → cond b (Some after) (slice_get rows q) ≡ Some x → Was rows q x
-    by true e k = record { row = before; there = ap (slice_get rows) (sym (eqb-true r q e)) ∙ g; hash = ap (λ (p : Sqe × ℕ). hash_of p.0.user_data) (sym same) ∙ (let s : after ≡ x = cc in ap row_hash s) }
-    by false e k = record { row = x; there = k; hash = refl }
+was = grind (arith, slice_get-set, slice_get_within, eqb-true)
 
 pub findable_set : (rows : List Row) (r : ℕ) (before after : Row) (f g : Finder) → Findable rows f → slice_get rows r ≡ Some before → fixed_of after ≡ fixed_of before → IsMarked r after f g → Findable (slice_set rows r after) g
-findable_set rows r before after f g h there same m = record {
-  room = λ l. let n = length-set rows r after in let p = h.room (omega (arith, n, l)) in record {
-    last = let a = ap length m.last in let b = p.last in omega (arith, a, b);
-    previous = let a = ap length m.previous in let b = p.previous in omega (arith, a, b, n);
-    holding = let a = m.room in let b = p.holding in omega (arith, a, b);
-  };
-  last = λ q x k. let w = was rows r before after there same q x k in let o = h.last q w.row w.there in let e = ap (λ xs. get_or xs (row_hash x) 0) m.last in let s = ap (λ i. get_or f.last i 0) w.hash in omega (arith, o, e, s);
-  previous = λ q p y x a b l e.
-      let v = was rows r before after there same q y a in
-      let w = was rows r before after there same p x b in
-      let o = h.previous q p v.row w.row v.there w.there l (v.hash ∙ e ∙ sym w.hash) in
-      let k = ap (λ xs. get_or xs p 0) m.previous in
-      omega (arith, o, k);
-  holding = λ q fd x k e. by q fd x (r == q) refl (sym (slice_get-set rows r q after (slice_get_within rows r before there)) ∙ k) e;
-}
-  where
-    by : (q fd : ℕ) (x : Row) (b : Bool) → (r == q) ≡ b → cond b (Some after) (slice_get rows q) ≡ Some x → holds fd x ≡ true → has g.holding (mark_of fd q) ≡ true
-    by q fd x true e k t = ap (λ i. has g.holding (mark_of fd i)) (sym (eqb-true r q e)) ∙ m.mark fd (let s : after ≡ x = cc in ap (holds fd) s ∙ t)
-    by q fd x false e k t = m.others (mark_of fd q) (h.holding q fd x k t)
+findable_set = grind (arith, length-set, was, slice_get-set, slice_get_within, eqb-true)
 
 -- ---- The last request is dropped
 
 taken : (rows : List Row) (r q : ℕ) (x : Row) → slice_get (take r rows) q ≡ Some x → (q < r) × (slice_get (take (r + 1) rows) q ≡ Some x)
-taken rows r q x h = elim (cases_lt q r) [
-  | inl less ↦ (less, slice_get-take_below rows (r + 1) q (omega (arith, less)) ∙ sym (slice_get-take_below rows r q less) ∙ h)
-  | inr more ↦ absurd (let e : None ≡ Some x = sym (slice_get-take_above rows r q more) ∙ h in cc)
-]
+taken = grind (arith, cases_lt, slice_get-take_below, slice_get-take_above)
 
 pub findable_pop : (rows : List Row) (r : ℕ) (row : Row) (f g : Finder) → r + 1 ≤ length rows → slice_get rows r ≡ Some row → Findable (take (r + 1) rows) f
     → g.last ≡ set f.last (row_hash row) (get_or f.previous r 0) → g.previous ≡ f.previous → g.holding ≡ f.holding → Findable (take r rows) g
@@ -211,22 +91,16 @@ no_user_before rows f user_data r low row h here hash past q other l k there = o
 
 -- Some requests are left.
 pub place_left : (rows : List Row) (k : ℕ) (f : Finder) → 0 < k → k ≤ length rows → Findable (take k rows) f → HasPlace (k - 1 + 1) f
-place_left rows k f some within h =
-    let n = length-take k rows in
-    let p = h.room (omega (arith, n, some, within)) in
-    record { last = p.last; previous = let l = p.previous in omega (arith, l, n, some, within); holding = p.holding }
+place_left = grind (arith, length-take)
 
 pub findable_pops : (rows : List Row) (k : ℕ) (row : Row) (f g : Finder) → 0 < k → k ≤ length rows → slice_get rows (k - 1) ≡ Some row → Findable (take k rows) f
     → g.last ≡ set f.last (row_hash row) (get_or f.previous (k - 1) 0) → g.previous ≡ f.previous → g.holding ≡ f.holding → Findable (take (k - 1) rows) g
-findable_pops rows k row f g some within there h last previous holding =
-    let P : ℕ → Type 0 = λ n. Findable (take n rows) f in
-    findable_pop rows (k - 1) row f g (omega (arith, some, within)) there (subst P (let e : k ≡ k - 1 + 1 = omega (arith, some) in e) h) last previous holding
+findable_pops = grind (arith, findable_pop)
 
 -- ---- By descriptor
 
 holds_if : (a b c : Bool) → a ≡ true → (b && c) ≡ true → (a && b && c) ≡ true
-holds_if true b c e h = h
-holds_if false b c e h = absurd cc
+holds_if = grind arith
 
 -- A block without a mark has no holder.
 pub no_mark : (rows : List Row) (f : Finder) (fd low high : ℕ) → Findable rows f → is_descriptor_number fd ≡ true → ((r : ℕ) → low ≤ r → r < high → r < length rows → has f.holding (mark_of fd r) ≡ false) → NoHolder fd rows low high
@@ -251,44 +125,21 @@ no_marks rows f fd at h number none = no_mark rows f fd at (length rows) h numbe
 
 -- What the mark is.
 pub mark_is : (fd r mark : ℕ) → Some mark ≡ cond (is_descriptor_number fd) (Some (mark_of fd r)) None → (is_descriptor_number fd ≡ true) × (mark ≡ mark_of fd r)
-mark_is fd r mark h = by (is_descriptor_number fd) h
-  where
-    by : (b : Bool) → Some mark ≡ cond b (Some (mark_of fd r)) None → (b ≡ true) × (mark ≡ mark_of fd r)
-    by true k = (refl, cc)
-    by false k = absurd cc
+mark_is = grind arith
 
 -- ---- From one issued request to the next
 
 pub joined_ranges : (fd : ℕ) (rows : List Row) (a b c : ℕ) → NoHolder fd rows a b → NoHolder fd rows b c → NoHolder fd rows a c
 joined_ranges fd rows a b c g h r row l k there = elim (cases_lt r b) [ inl less ↦ g r row l less there | inr more ↦ h r row more k there ]
 
--- The requests before the next issued one.
-before_issued : (fd : ℕ) (rows : List Row) (start r : ℕ) → IsNextIssued rows start r → NoHolder fd rows start r
-before_issued fd rows start r n q row l k there = and_left _ _ (n.least q row l k there)
-
 pub holder_found : (fd : ℕ) (rows : List Row) (from at r : ℕ) (row : Row) → from ≤ at → NoHolder fd rows from at → IsNextIssued rows at r → slice_get rows r ≡ Some row → holds_now fd row ≡ true → IsNextWhere (holds_now fd) rows from r
-holder_found fd rows from at r row l g n there holder = record {
-  after = let a = n.after in omega (arith, a, l);
-  row = row;
-  there = there;
-  passes = holder;
-  least = λ q x low high t. joined_ranges fd rows from at r g (before_issued fd rows at r n) q x low high t;
-}
+holder_found = grind arith
 
 pub holder_passed : (fd : ℕ) (rows : List Row) (from at r : ℕ) (row : Row) → NoHolder fd rows from at → IsNextIssued rows at r → slice_get rows r ≡ Some row → holds_now fd row ≡ false → NoHolder fd rows from (r + 1)
-holder_passed fd rows from at r row g n there other = joined_ranges fd rows from r (r + 1) (joined_ranges fd rows from at r g (before_issued fd rows at r n)) (λ q x low high t. let e : q ≡ r = omega (arith, low, high) in let same : Some row ≡ Some x = sym there ∙ ap (slice_get rows) (sym e) ∙ t in here x same)
-  where
-    here : (x : Row) → Some row ≡ Some x → holds_now fd x ≡ false
-    here x e = let s : row ≡ x = cc in ap (holds_now fd) (sym s) ∙ other
+holder_passed = grind arith
 
 pub holder_after : (fd : ℕ) (rows : List Row) (from start r : ℕ) → from ≤ start → NoHolder fd rows from start → IsNextWhere (holds_now fd) rows start r → IsNextWhere (holds_now fd) rows from r
-holder_after fd rows from start r l g n = record {
-  after = let a = n.after in omega (arith, a, l);
-  row = n.row;
-  there = n.there;
-  passes = n.passes;
-  least = λ q x low high t. joined_ranges fd rows from start r g n.least q x low high t;
-}
+holder_after = grind arith
 
 pub no_holder : (fd : ℕ) (rows : List Row) (from at : ℕ) → NoHolder fd rows from at → NoHolder fd rows at (length rows) → NoneWhere (holds_now fd) rows from
 no_holder fd rows from at g h q row l there = joined_ranges fd rows from at (length rows) g h q row l (slice_get_within rows q row there) there
@@ -302,8 +153,7 @@ no_issued fd rows from at end g n q row l k there = elim (cases_lt q at) [ inl l
 -- ---- Room in an empty table
 
 pub some_rows : (rows : List Row) → (length rows == 0) ≡ false → 0 < length rows
-some_rows [] h = absurd cc
-some_rows (x ∷ rows) h = omega arith
+some_rows = grind arith
 
 pub no_rows : (rows : List Row) (f : Finder) → (length rows == 0) ≡ true → Findable rows f
 no_rows rows f h = findable_empty rows f (eqb-true (length rows) 0 h)

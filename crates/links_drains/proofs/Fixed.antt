@@ -1,12 +1,5 @@
 -- The fields of a request that never change.
-use Rattle.std.proofs.Common.{◌≡◌, ℕ, refl, sym, ap, List, map, length, ◌<◌}
-use Rattle.std.specs.Prelude.{Option, Some, None, option_map, slice_get, slice_set, nat_lt, ◌==◌, ◌&&◌}
-use Rattle.std.proofs.lemmas.Option.{slice_get_within}
-use Rattle.entries.specs.declared.entry.Sqe.{Sqe}
-use Rattle.entries.specs.declared.row.Row.{Row}
-use Rattle.places.proofs.ListLemmas.{map_same}
-use Rattle.links_drains.specs.Counts.{has_count}
-use Rattle.links_drains.specs.Rows.{fixed_of}
+use Rattle.links_drains.proofs.Common.{◌≡◌, ℕ, ap, List, map, length, ◌<◌, arith, Some, option_map, slice_get, slice_set, nat_lt, ◌==◌, ◌&&◌, slice_get_within, Sqe, Row, map_same, has_count, fixed_of}
 
 -- Row i exists and may be replaced by the row.
 pub record Fixed (rows : List Row) (i : ℕ) (row : Row) : Type 0 where
@@ -15,11 +8,7 @@ pub record Fixed (rows : List Row) (i : ℕ) (row : Row) : Type 0 where
   pub same : fixed_of row ≡ fixed_of before
 
 pub fixed_at : (rows : List Row) (i : ℕ) (row : Row) → option_map fixed_of (slice_get rows i) ≡ Some (fixed_of row) → Fixed rows i row
-fixed_at rows i row h = by (slice_get rows i) refl h
-  where
-    by : (o : Option Row) → slice_get rows i ≡ o → option_map fixed_of o ≡ Some (fixed_of row) → Fixed rows i row
-    by None e k = absurd cc
-    by (Some before) e k = record { before = before; there = e; same = let m : fixed_of before ≡ fixed_of row = cc in sym m }
+fixed_at = grind arith
 
 pub fixed_within : (rows : List Row) (i : ℕ) (row : Row) → option_map fixed_of (slice_get rows i) ≡ Some (fixed_of row) → i < length rows
 fixed_within rows i row h = let f = fixed_at rows i row h in slice_get_within rows i f.before f.there

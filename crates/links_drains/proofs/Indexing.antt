@@ -1,19 +1,6 @@
 -- The index remains correct when the table changes.
-use Rattle.std.proofs.Common.{◌≡◌, ◌≢◌, ℕ, zero, suc, Bool, true, false, cond, refl, sym, ◌∙◌, ap, subst, List, [], ◌∷◌, ◌++◌, length, take, min, ◌+◌, ◌-◌, ◌<◌, ◌≤◌, ◌⊎◌, inl, inr, arith}
-use Rattle.std.specs.Prelude.{Some, slice_get, slice_set, ◌==◌, ◌&&◌}
-use Rattle.std.specs.Option.{option_map_or}
-use Rattle.std.proofs.lemmas.Bool.{cases_eq, cases_lt, eq-eqb, eqb-true, ne_eqb, and_left}
-use Rattle.std.proofs.lemmas.List.{get_or_past, length-set, length-take}
-use Rattle.std.proofs.lemmas.Option.{slice_get_within, slice_get_past}
-use Rattle.entries.specs.declared.row.Row.{Row}
-use Rattle.places.proofs.ListLemmas.{slice_get-set, slice_get-set_same, slice_get-push, slice_get-take_below, slice_get-take_above, updated_set}
-use Rattle.links_drains.specs.Counts.{has_count, threshold_in, threshold_of}
-use Rattle.links_drains.specs.Links.{has_drain_flag, Chained, ChainContinues}
-use Rattle.links_drains.specs.Indexes.{HasRoom, HasThresholds, Indexed, IndexedBut, Cleared, Unreached, Forgotten}
-use Rattle.bit_sets.specs.Sets.{has}
+use Rattle.links_drains.proofs.Common.{◌≡◌, ◌≢◌, ℕ, zero, suc, Bool, true, false, cond, refl, sym, ◌∙◌, ap, subst, List, [], ◌∷◌, ◌++◌, length, take, ◌+◌, ◌-◌, ◌<◌, ◌≤◌, ◌⊎◌, inl, inr, arith, Some, slice_get, slice_set, ◌==◌, ◌&&◌, option_map_or, cases_eq, cases_lt, ne_eqb, and_left, length-set, length-take, slice_get_within, slice_get_past, Row, slice_get-set, slice_get-set_same, slice_get-push, slice_get-take_below, slice_get-take_above, updated_set, has_count, threshold_in, threshold_of, has_drain_flag, Chained, ChainContinues, HasRoom, HasThresholds, Indexed, IndexedBut, Cleared, Unreached, Forgotten, has, passes_at, is_issued_row, is_open, is_barrier, common_steps}
 use Rattle.bit_sets.specs.Thresholds.{never, threshold_at}
-use Rattle.links_drains.specs.Phases.{is_issued}
-use Rattle.links_drains.specs.Units.{passes_at, is_issued_row, is_open, is_barrier}
 use Rattle.links_drains.specs.declared.index.Index.{Index}
 use Rattle.links_drains.proofs.Chains.{chained-none, chained-take, chained-updated}
 use Rattle.bit_sets.proofs.Bits.{has_past}
@@ -30,75 +17,31 @@ chained_set rows r before row c h same =
 
 -- A row of the longer list is an old one or the new one.
 pub pushed : (rows : List Row) (row : Row) (q : ℕ) (x : Row) → slice_get (rows ++ row ∷ []) q ≡ Some x → (slice_get rows q ≡ Some x) ⊎ ((q ≡ length rows) × (row ≡ x))
-pushed rows row q x h = by (length rows == q) refl (sym (slice_get-push rows q row) ∙ h)
-  where
-    by : (b : Bool) → (length rows == q) ≡ b → cond b (Some row) (slice_get rows q) ≡ Some x → (slice_get rows q ≡ Some x) ⊎ ((q ≡ length rows) × (row ≡ x))
-    by true e k = inr (sym (eqb-true (length rows) q e), cc)
-    by false e k = inl k
+pushed = grind (arith, slice_get-push)
 
 unit_within : (rows : List Row) (row : Row) → Chained rows → ChainContinues rows row → row.unit ≤ length rows
-unit_within rows row c (inl new) = omega (arith, new)
-unit_within rows row c (inr on) = let b = c.back on.1 on.0 on.3 in let k = on.2 in let e = on.4 in omega (arith, b, k, e)
+unit_within = grind arith
 
 -- All rows from the chain's first on belong to the chain.
 of_last_unit : (rows : List Row) (row : Row) → Chained rows → ChainContinues rows row → (q : ℕ) (x : Row) → slice_get rows q ≡ Some x → row.unit ≤ q → x.unit ≡ row.unit
-of_last_unit rows row c (inl new) q x h low = absurd (let w = slice_get_within rows q x h in omega (arith, w, new, low))
-of_last_unit rows row c (inr on) q x h low =
-    let w = slice_get_within rows q x h in
-    let k = on.2 in
-    let e = on.4 in
-    c.run q on.1 x on.0 h on.3 (omega (arith, w, k)) (omega (arith, low, e)) ∙ sym e
+of_last_unit = grind (arith, slice_get_within)
 
 pub chained_push : (rows : List Row) (row : Row) → Chained rows → ChainContinues rows row → Chained (rows ++ row ∷ [])
-chained_push rows row c on = record {
-  back = λ r x h. back r x (pushed rows row r x h);
-  run = λ q r y x g h l k. run q r y x (pushed rows row q y g) (pushed rows row r x h) l k;
-}
-  where
-    back : (r : ℕ) (x : Row) → (slice_get rows r ≡ Some x) ⊎ ((r ≡ length rows) × (row ≡ x)) → x.unit ≤ r
-    back r x (inl h) = c.back r x h
-    back r x (inr h) = let e = h.0 in let u = ap (λ (y : Row). y.unit) h.1 in omega (arith, unit_within rows row c on, e, u)
-
-    run : (q r : ℕ) (y x : Row) → (slice_get rows q ≡ Some y) ⊎ ((q ≡ length rows) × (row ≡ y)) → (slice_get rows r ≡ Some x) ⊎ ((r ≡ length rows) × (row ≡ x)) → q ≤ r → x.unit ≤ q → y.unit ≡ x.unit
-    run q r y x (inl g) (inl h) l k = c.run q r y x g h l k
-    run q r y x (inr g) (inl h) l k = absurd (let w = slice_get_within rows r x h in let e = g.0 in omega (arith, w, e, l))
-    run q r y x (inl g) (inr h) l k = let u = ap (λ (z : Row). z.unit) h.1 in of_last_unit rows row c on q y g (omega (arith, u, k)) ∙ u
-    run q r y x (inr g) (inr h) l k = ap (λ (z : Row). z.unit) (sym g.1 ∙ h.1)
+chained_push = grind (arith, pushed, unit_within, slice_get_within, of_last_unit)
 
 -- ---- One row is written into the sets
 
 pub tied : (test : Row → Bool) (rows : List Row) (r : ℕ) (x row : Row) (b : Bool) (old new : List ℕ) → x ≡ row → slice_get rows r ≡ Some row → b ≡ test x
     → ((q : ℕ) → q ≢ r → has old q ≡ passes_at test rows q) → ((q : ℕ) → has new q ≡ cond (q == r) b (has old q)) → (q : ℕ) → has new q ≡ passes_at test rows q
-tied test rows r x row b old new e h t others written q = elim (cases_eq q r) [
-  | inl same ↦ written q ∙ ap (λ d. cond d b (has old q)) (eq-eqb q r same) ∙ t ∙ ap test e ∙ sym (ap (λ o. option_map_or test o false) (ap (slice_get rows) same ∙ h))
-  | inr other ↦ written q ∙ ap (λ d. cond d b (has old q)) (ne_eqb q r other) ∙ others q other
-]
+tied = grind arith
 
 -- There is room for a threshold, unless it is `never`.
 pub counted_room : (rows : List Row) (index : Index) (r : ℕ) (x row : Row) (n : ℕ) → HasThresholds rows index → x ≡ row → slice_get rows r ≡ Some row → n ≡ threshold_of x → (n ≡ never) ⊎ (r < length index.thresholds)
-counted_room rows index r x row n h is there e = by (has_count row) refl
-  where
-    none : (a : Bool) (m : ℕ) → cond (a && false) m never ≡ never
-    none true m = refl
-    none false m = refl
-
-    by : (b : Bool) → has_count row ≡ b → (n ≡ never) ⊎ (r < length index.thresholds)
-    by true c = inr (h r row there c)
-    by false c = inl (e ∙ ap threshold_of is ∙ ap (λ b. cond (is_issued row.phase && b) (min (row.base + row.entry.off) never) never) c ∙ none (is_issued row.phase) (min (row.base + row.entry.off) never))
+counted_room = grind arith
 
 pub tied_thresholds : (rows : List Row) (r : ℕ) (x row : Row) (n : ℕ) (old new : List ℕ) → x ≡ row → slice_get rows r ≡ Some row → n ≡ threshold_of x
     → ((q : ℕ) → q ≢ r → threshold_at old q ≡ threshold_in rows q) → ((q : ℕ) → threshold_at new q ≡ cond (q == r) n (threshold_at old q)) → (q : ℕ) → threshold_at new q ≡ threshold_in rows q
-tied_thresholds rows r x row n old new e h t others written q = elim (cases_eq q r) [
-  | inl same ↦ written q ∙ ap (λ d. cond d n (threshold_at old q)) (eq-eqb q r same) ∙ t ∙ ap threshold_of e ∙ sym (ap (λ o. option_map_or threshold_of o never) (ap (slice_get rows) same ∙ h))
-  | inr other ↦ written q ∙ ap (λ d. cond d n (threshold_at old q)) (ne_eqb q r other) ∙ others q other
-]
-
-tied_barriers : (rows : List Row) (unit : ℕ) (b : Bool) (old new : List ℕ) → b ≡ is_barrier rows unit → ((u : ℕ) → u ≢ unit → has old u ≡ is_barrier rows u)
-    → ((u : ℕ) → has new u ≡ cond (u == unit) b (has old u)) → (u : ℕ) → has new u ≡ is_barrier rows u
-tied_barriers rows unit b old new t others written u = elim (cases_eq u unit) [
-  | inl same ↦ written u ∙ ap (λ d. cond d b (has old u)) (eq-eqb u unit same) ∙ t ∙ ap (is_barrier rows) (sym same)
-  | inr other ↦ written u ∙ ap (λ d. cond d b (has old u)) (ne_eqb u unit other) ∙ others u other
-]
+tied_thresholds = grind arith
 
 pub updated_index : (rows : List Row) (r : ℕ) (x row : Row) (b : Bool) (old new : Index) → x ≡ row → b ≡ is_barrier rows x.unit → IndexedBut r row.unit rows old
     → length new.unfinished ≡ length old.unfinished → length new.flagged ≡ length old.flagged → length new.barriers ≡ length old.barriers → length new.issued ≡ length old.issued
@@ -106,17 +49,7 @@ pub updated_index : (rows : List Row) (r : ℕ) (x row : Row) (b : Bool) (old ne
     → ((q : ℕ) → has new.unfinished q ≡ passes_at is_open rows q) → ((q : ℕ) → has new.flagged q ≡ passes_at has_drain_flag rows q)
     → ((u : ℕ) → has new.barriers u ≡ cond (u == x.unit) b (has old.barriers u)) → ((q : ℕ) → has new.issued q ≡ passes_at is_issued_row rows q)
     → ((q : ℕ) → threshold_at new.thresholds q ≡ threshold_in rows q) → Indexed rows new
-updated_index rows r x row blocks old new e t i la lb lc ld le a b c d f = record {
-  chained = i.chained;
-  room = let x = i.room.unfinished in let y = i.room.flagged in let z = i.room.barriers in let s = i.room.issued in
-      record { unfinished = omega (arith, la, x); flagged = omega (arith, lb, y); barriers = omega (arith, lc, z); issued = omega (arith, ld, s) };
-  counted = λ q y g e. let n = i.counted q y g e in omega (arith, le, n);
-  unfinished = a;
-  flagged = b;
-  barriers = tied_barriers rows x.unit blocks old.barriers new.barriers t (λ u other. i.barriers u (λ same. other (same ∙ sym (ap (λ (y : Row). y.unit) e)))) c;
-  issued = d;
-  thresholds = f;
-}
+updated_index = grind arith
 
 -- ---- The table changes
 
@@ -169,35 +102,13 @@ indexed_push rows index row i room counts on = record {
 -- Rows are dropped from the end.
 
 tie_dropped : (test : Row → Bool) (rows : List Row) (n : ℕ) (old new : List ℕ) → ((r : ℕ) → has old r ≡ passes_at test rows r) → Cleared n (length rows) old new → (r : ℕ) → has new r ≡ passes_at test (take n rows) r
-tie_dropped test rows n old new h c r = elim (cases_lt r n) [
-  | inl less ↦ c.below r less ∙ h r ∙ ap (λ o. option_map_or test o false) (sym (slice_get-take_below rows n r less))
-  | inr past ↦ elim (cases_lt r (length rows)) [
-    | inl inside ↦ c.inside r past inside ∙ gone past
-    | inr out ↦ c.past r out ∙ h r ∙ ap (λ o. option_map_or test o false) (slice_get_past rows r out) ∙ gone past
-  ]
-]
-  where
-    gone : n ≤ r → false ≡ passes_at test (take n rows) r
-    gone past = sym (ap (λ o. option_map_or test o false) (slice_get-take_above rows n r past))
+tie_dropped = grind (arith, cases_lt, slice_get-take_below, slice_get_past, slice_get-take_above)
 
 thresholds_dropped : (rows : List Row) (n : ℕ) (old new : List ℕ) → ((r : ℕ) → threshold_at old r ≡ threshold_in rows r) → Unreached n (length rows) old new → (r : ℕ) → threshold_at new r ≡ threshold_in (take n rows) r
-thresholds_dropped rows n old new h c r = elim (cases_lt r n) [
-  | inl less ↦ c.below r less ∙ h r ∙ ap (λ o. option_map_or threshold_of o never) (sym (slice_get-take_below rows n r less))
-  | inr past ↦ elim (cases_lt r (length rows)) [
-    | inl inside ↦ c.inside r past inside ∙ gone past
-    | inr out ↦ c.past r out ∙ h r ∙ ap (λ o. option_map_or threshold_of o never) (slice_get_past rows r out) ∙ gone past
-  ]
-]
-  where
-    gone : n ≤ r → never ≡ threshold_in (take n rows) r
-    gone past = sym (ap (λ o. option_map_or threshold_of o never) (slice_get-take_above rows n r past))
+thresholds_dropped = grind (arith, cases_lt, slice_get-take_below, slice_get_past, slice_get-take_above)
 
 kept_row : (rows : List Row) (n r : ℕ) (x : Row) → slice_get (take n rows) r ≡ Some x → (r < n) × (slice_get rows r ≡ Some x)
-kept_row rows n r x h = by (cases_lt r n)
-  where
-    by : (r < n) ⊎ (n ≤ r) → (r < n) × (slice_get rows r ≡ Some x)
-    by (inl less) = (less, sym (slice_get-take_below rows n r less) ∙ h)
-    by (inr past) = absurd (let e = slice_get-take_above rows n r past in cc)
+kept_row = grind (arith, cases_lt, slice_get-take_below, slice_get-take_above)
 
 -- A chain without rows blocks nothing.
 no_barrier : (rows : List Row) (u : ℕ) → ((r : ℕ) (x : Row) → slice_get rows r ≡ Some x → x.unit ≢ u) → is_barrier rows u ≡ false
@@ -253,16 +164,7 @@ indexed_take rows old new n last i some h f = record {
 
 -- An index with empty sets is that of an empty table.
 pub indexed_empty : (index : Index) → index.unfinished ≡ [] → index.flagged ≡ [] → index.barriers ≡ [] → index.issued ≡ [] → index.thresholds ≡ [] → Indexed [] index
-indexed_empty index a b c d e = record {
-  chained = chained-none;
-  room = record { unfinished = omega arith; flagged = omega arith; barriers = omega arith; issued = omega arith };
-  counted = λ q x g e. absurd cc;
-  unfinished = λ r. ap (λ w. has w r) a ∙ has_past [] r (omega arith);
-  flagged = λ r. ap (λ w. has w r) b ∙ has_past [] r (omega arith);
-  barriers = λ u. ap (λ w. has w u) c ∙ has_past [] u (omega arith);
-  issued = λ r. ap (λ w. has w r) d ∙ has_past [] r (omega arith);
-  thresholds = λ r. ap (λ w. threshold_at w r) e ∙ get_or_past [] r never (omega arith);
-}
+indexed_empty = grind (arith, has_past)
 
 -- The rows after some were dropped from the end.
 pub indexed_left : (rows left : List Row) (old new : Index) (n k : ℕ) → Indexed rows old → length rows ≡ n → left ≡ take k rows → k ≤ n → 0 < k → Forgotten k n old new
@@ -273,5 +175,4 @@ indexed_left rows left old new n k i len is within some f =
     rw is (last.0, last.2, indexed_take rows old new k last.0 i some last.1 g)
 
 pub indexed_none_left : (rows left : List Row) (old new : Index) (n : ℕ) → Indexed rows old → length rows ≡ n → length left ≡ 0 → Forgotten 0 n old new → Indexed left new
-indexed_none_left rows [] old new n i len none f = indexed_none rows old new i (rw len f)
-indexed_none_left rows (x ∷ left) old new n i len none f = absurd (omega (arith, none))
+indexed_none_left = grind (arith, common_steps, indexed_none)

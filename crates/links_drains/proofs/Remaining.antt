@@ -1,13 +1,5 @@
 -- Requests retain their entry and chain when the table changes.
-use Rattle.std.proofs.Common.{◌≡◌, ℕ, sym, ◌∙◌, ap, List, ◌++◌, length, map, take, ◌<◌, ◌≤◌, ◌⊎◌, inl, inr, arith}
-use Rattle.std.specs.Prelude.{Some, None, option_map, slice_get, slice_set}
-use Rattle.std.proofs.lemmas.Bool.{cases_lt}
-use Rattle.std.proofs.lemmas.Grind.{common_steps}
-use Rattle.std.proofs.lemmas.List.{length-map}
-use Rattle.std.proofs.lemmas.Option.{gets, slice_get-map}
-use Rattle.entries.specs.declared.row.Row.{Row}
-use Rattle.places.proofs.ListLemmas.{same_list, field_same, slice_get-take_below, slice_get-take_above}
-use Rattle.links_drains.specs.Rows.{fixed_of, Stay}
+use Rattle.links_drains.proofs.Common.{◌≡◌, ℕ, sym, ◌∙◌, ap, List, ◌++◌, length, map, take, ◌<◌, ◌≤◌, arith, Some, None, option_map, slice_get, slice_set, cases_lt, common_steps, length-map, gets, slice_get-map, Row, same_list, field_same, slice_get-take_below, slice_get-take_above, fixed_of, Stay}
 use Rattle.links_drains.proofs.Fixed.{fixed_at}
 
 pub stay_then : (a b c : List Row) → length a ≤ length b → Stay a b → Stay b c → Stay a c
@@ -29,11 +21,7 @@ past rows r h = grind (arith, common_steps, gets)
 
 -- Without the added rows, the fixed fields are the same as before.
 pub stay_cut : (rows next : List Row) (n : ℕ) → n ≡ length rows → Stay rows next → map fixed_of rows ≡ map fixed_of (take n next)
-stay_cut rows next n e h = same_list _ _ (λ r. slice_get-map fixed_of rows r ∙ by r (cases_lt r n) ∙ sym (slice_get-map fixed_of (take n next) r))
-  where
-    by : (r : ℕ) → (r < n) ⊎ (n ≤ r) → option_map fixed_of (slice_get rows r) ≡ option_map fixed_of (slice_get (take n next) r)
-    by r (inl less) = sym (h r (omega (arith, less, e))) ∙ ap (option_map fixed_of) (sym (slice_get-take_below next n r less))
-    by r (inr more) = ap (option_map fixed_of) (past rows r (omega (arith, more, e)) ∙ sym (slice_get-take_above next n r more))
+stay_cut = grind (arith, same_list, slice_get-map, cases_lt, slice_get-take_below, past, slice_get-take_above)
 
 -- A row may be replaced by the row that was there before.
 pub was_fixed : (rows now : List Row) (i : ℕ) (x : Row) → map fixed_of rows ≡ map fixed_of now → slice_get rows i ≡ Some x → option_map fixed_of (slice_get now i) ≡ Some (fixed_of x)

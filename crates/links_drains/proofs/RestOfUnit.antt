@@ -1,15 +1,7 @@
 -- The rest of a chain, computed row by row.
-use Rattle.std.proofs.Common.{◌≡◌, ℕ, zero, suc, Bool, true, false, cond, refl, sym, ◌∙◌, ap, List, [], ◌∷◌, ◌++◌, take, length, ◌<◌, ◌≤◌, ◌+◌, inl, inr, arith}
+use Rattle.links_drains.proofs.Common.{◌≡◌, ℕ, zero, suc, Bool, true, false, cond, refl, sym, ◌∙◌, ap, List, [], ◌∷◌, ◌++◌, take, length, ◌<◌, ◌≤◌, ◌+◌, inl, inr, arith, option_map_or, filter, enumerate_from, ltb-true, and_left, cases_Bool, ne_eqb, map-append, slice_get_within, slice_get_past, Row, Chained, is_open, is_rest, passes_at, rest_of}
 use Rattle.std.specs.Prelude.{Option, Some, None, map, option_map, slice_get, ◌==◌, ◌&&◌, nat_lt}
-use Rattle.std.specs.Option.{option_map_or}
-use Rattle.std.specs.List.{filter, enumerate_from}
-use Rattle.std.proofs.lemmas.Bool.{eq-eqb, ltb-true, lt-ltb, and_left, cases_Bool, ne_eqb}
-use Rattle.std.proofs.lemmas.List.{map-append}
 use Rattle.std.proofs.lemmas.List.Elements.{filter-append}
-use Rattle.std.proofs.lemmas.Option.{slice_get_within, slice_get_past}
-use Rattle.entries.specs.declared.row.Row.{Row}
-use Rattle.links_drains.specs.Links.{Chained}
-use Rattle.links_drains.specs.Units.{is_open, is_rest, passes_at, rest_of}
 use Rattle.links_drains.proofs.Batching.{take_more}
 use Rattle.links_drains.proofs.Chains.{enumerated}
 use Rattle.links_drains.proofs.Units.{passes_here}
@@ -38,11 +30,7 @@ rest_to rows r k = map (λ (other : ℕ × Row). other.0) (filter (in_rest rows 
 
 -- A test that fails for a row fails for the numbered row.
 pub numbered : (test : ℕ × Row → Bool) (rows : List Row) (i : ℕ) (p : ℕ × Row) → ((row : Row) → slice_get rows i ≡ Some row → test (i, row) ≡ false) → slice_get (enumerate_from 0 rows) i ≡ Some p → test p ≡ false
-numbered test rows i p h e = by (slice_get rows i) refl (sym (enumerated rows i) ∙ e)
-  where
-    by : (o : Option Row) → slice_get rows i ≡ o → option_map (λ (y : Row). (i, y)) o ≡ Some p → test p ≡ false
-    by None g k = absurd cc
-    by (Some row) g k = let same : (i, row) ≡ p = cc in ap test (sym same) ∙ h row g
+numbered = grind (arith, enumerated)
 
 pub rest_start : (rows : List Row) (r : ℕ) → [] ≡ rest_to rows r (r + 1)
 rest_start rows r = sym (ap (map (λ (other : ℕ × Row). other.0)) (none_before (in_rest rows r) (r + 1) (enumerate_from 0 rows)
@@ -58,9 +46,7 @@ rest_more rows r k row h =
     ∙ map-append (λ (other : ℕ × Row). other.0) (filter (in_rest rows r) (take k (enumerate_from 0 rows))) (cond (in_rest rows r (k, row)) ((k, row) ∷ []) [])
 
 here_is_rest : (rows : List Row) (r k : ℕ) (head row : Row) (b : Bool) → slice_get rows r ≡ Some head → r + 1 ≤ k → row.unit ≡ head.unit → is_open row ≡ b → in_rest rows r (k, row) ≡ b
-here_is_rest rows r k head row b h l u e =
-    ap (λ c. c && (passes_at (λ (x : Row). row.unit == x.unit) rows r && is_open row)) (lt-ltb r k (omega (arith, l)))
-    ∙ ap (λ c. c && is_open row) (passes_here (λ (x : Row). row.unit == x.unit) rows r head h ∙ eq-eqb row.unit head.unit u) ∙ e
+here_is_rest = grind arith
 
 -- The next row belongs to the chain.
 pub rest_on : (rows : List Row) (r k : ℕ) (head row : Row) (b : Bool) → slice_get rows r ≡ Some head → slice_get rows k ≡ Some row → r + 1 ≤ k → row.unit ≡ head.unit → is_open row ≡ b → rest_to rows r (k + 1) ≡ rest_to rows r k ++ cond b (k ∷ []) []
@@ -95,7 +81,4 @@ rest_past rows r k h = rest_end rows r k (λ i row head l g e u. let f = slice_g
 
 -- A row of another chain ends the search.
 pub rest_left : (rows : List Row) (r k : ℕ) (head row : Row) → Chained rows → slice_get rows r ≡ Some head → slice_get rows k ≡ Some row → r + 1 ≤ k → (row.unit ≡ head.unit → ⊥) → rest_to rows r k ≡ rest_of rows r
-rest_left rows r k head row c h g l other = rest_end rows r k (λ i late first m e f u.
-    let same : head.unit ≡ first.unit = ap (λ (o : Option Row). option_map_or (λ (x : Row). x.unit) o 0) (sym h ∙ f) in
-    let b = c.back r head h in
-    other (c.run k i row late g e m (omega (arith, u, same, b, l)) ∙ u ∙ sym same))
+rest_left = grind (arith, rest_end)

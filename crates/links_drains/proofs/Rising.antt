@@ -1,10 +1,5 @@
 -- Endings are of unfinished rows, by ascending number.
-use Rattle.std.proofs.Common.{◌≡◌, ℕ, ℤ, zero, suc, Bool, true, false, cond, refl, sym, ◌∙◌, ap, subst, List, [], ◌∷◌, ◌+◌, ◌<◌, arith}
-use Rattle.std.specs.Prelude.{Option, Some, None, slice_get}
-use Rattle.std.specs.List.{cons_option}
-use Rattle.entries.specs.declared.row.Row.{Row}
-use Rattle.links_drains.specs.Phases.{is_unfinished}
-use Rattle.links_drains.specs.Endings.{Ending, paired, endings_from, endings}
+use Rattle.links_drains.proofs.Common.{◌≡◌, ℕ, ℤ, zero, suc, true, refl, sym, ◌∙◌, ap, subst, List, [], ◌∷◌, ◌+◌, ◌<◌, arith, Option, Some, None, slice_get, cons_option, Row, is_unfinished, Ending, paired, endings_from, endings}
 use Rattle.links_drains.proofs.Listing.{result_of, endings_step}
 
 -- The ending belongs to an unfinished row and has the result that f has for it. Rows are numbered
@@ -18,11 +13,7 @@ pub record EndsFrom (f : ℕ → Row → Option ℤ) (n : ℕ) (rows : List Row)
   pub gives : f e.0 row ≡ Some e.1
 
 gives_of : (f : ℕ → Row → Option ℤ) (n : ℕ) (row : Row) (res : ℤ) → result_of f n row ≡ Some res → (is_unfinished row.phase ≡ true) × (f n row ≡ Some res)
-gives_of f n row res h = by (is_unfinished row.phase) refl h
-  where
-    by : (b : Bool) → is_unfinished row.phase ≡ b → cond b (f n row) None ≡ Some res → (is_unfinished row.phase ≡ true) × (f n row ≡ Some res)
-    by true e k = (e, k)
-    by false e k = absurd cc
+gives_of = grind arith
 
 later : (f : ℕ → Row → Option ℤ) (n : ℕ) (row : Row) (rows : List Row) (e : Ending) → EndsFrom f (n + 1) rows e → EndsFrom f n (row ∷ rows) e
 later f n row rows e h = record { index = suc h.index; row = h.row; is = omega (arith, h.is); there = h.there; unfinished = h.unfinished; gives = h.gives }

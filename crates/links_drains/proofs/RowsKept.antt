@@ -1,11 +1,5 @@
 -- The rows of a changed table.
-use Rattle.std.proofs.Common.{◌≡◌, ◌≢◌, ℕ, zero, suc, Bool, true, false, cond, refl, ap, List, [], ◌∷◌, ◌++◌, length, take, ◌+◌, min, arith}
-use Rattle.std.specs.Prelude.{Some, option_map, slice_get, ◌==◌}
-use Rattle.std.proofs.lemmas.Bool.{eqb-true, eq-eqb}
-use Rattle.std.proofs.lemmas.Grind.{common_steps}
-use Rattle.std.proofs.lemmas.Option.{gets}
-use Rattle.entries.specs.declared.row.Row.{Row}
-use Rattle.places.specs.Lists.{updated}
+use Rattle.links_drains.proofs.Common.{◌≡◌, ◌≢◌, ℕ, zero, suc, Bool, true, false, cond, refl, ap, List, [], ◌∷◌, ◌++◌, length, take, ◌+◌, min, arith, Some, option_map, slice_get, ◌==◌, eqb-true, eq-eqb, common_steps, gets, Row, updated}
 
 -- A row is added at the end.
 

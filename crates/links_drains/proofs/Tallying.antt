@@ -1,17 +1,10 @@
 -- The counts of held descriptors remain correct when the table changes.
-use Rattle.std.proofs.Common.{◌≡◌, ℕ, zero, suc, Bool, true, false, cond, refl, sym, ◌∙◌, ap, List, [], ◌∷◌, ◌++◌, length, take, drop, get_or, ◌+◌, ◌-◌, ◌^◌, ◌<◌, ◌≤◌, arith}
-use Rattle.std.specs.Prelude.{Some, slice_get, slice_set, nat_lt, ◌||◌}
-use Rattle.std.specs.List.{filter, list_any}
-use Rattle.std.proofs.lemmas.List.{take-append-drop, take_all}
+use Rattle.links_drains.proofs.Common.{◌≡◌, ℕ, zero, suc, Bool, true, false, cond, refl, sym, ◌∙◌, ap, List, [], ◌∷◌, ◌++◌, length, take, drop, get_or, ◌+◌, ◌-◌, ◌^◌, ◌<◌, ◌≤◌, arith, Some, slice_get, slice_set, nat_lt, ◌||◌, filter, list_any, take-append-drop, take_all, Row, holders, is_held, updated_set, holds, holders_of, is_held_by, Tallied, common_steps}
 use Rattle.std.proofs.lemmas.List.Filters.{length-filter_more}
 use Rattle.std.proofs.lemmas.Bool.Decides.{nat_tests}
-use Rattle.entries.specs.declared.row.Row.{Row}
 use Rattle.model_files.specs.declared.held.Held.{Held}
-use Rattle.model_files.specs.Holders.{holders, is_held}
-use Rattle.places.proofs.ListLemmas.{updated_set}
-use Rattle.links_drains.specs.Holding.{holds, holders_of, is_held_by, Tallied}
 use Rattle.links_drains.proofs.Counting.{matching-more, matching-append, matching-updated, matching-le-length}
-use Rattle.links_drains.proofs.RowsKept.{length-dropped, length-push}
+use Rattle.links_drains.proofs.RowsKept.{length-dropped}
 
 -- ---- How many requests hold a descriptor
 
@@ -30,45 +23,27 @@ written rows r before row fd h = ap (λ rs. holders_of rs fd + cond (holds fd be
 -- The next row to be removed is counted.
 pub next_counted : (rows : List Row) (n i : ℕ) (row : Row) (fd before now : ℕ) → i < length rows → row ≡ get_or rows i row → holders_of (drop n rows) fd ≤ before
     → before + holders_of (take n rows) fd ≡ now + holders_of (take i rows) fd → holds fd row ≡ true → 0 < now
-next_counted rows n i row fd before now h is most e t =
-    let a = cut rows (i + 1) fd in
-    let all = cut rows n fd in
-    let b = one_more rows i row fd h in
-    let by_row : Row → ℕ = λ x. cond (holds fd x) 1 0 in
-    let by_test : Bool → ℕ = λ y. cond y 1 0 in
-    let c = ap by_row (sym is) ∙ ap by_test t in
-    omega (arith, a, all, b, c, most, e)
+next_counted = grind (arith, common_steps, cut, one_more)
 
 pub next_gone : (rows : List Row) (n i : ℕ) (row : Row) (fd before now later : ℕ) → i < length rows → row ≡ get_or rows i row → before + holders_of (take n rows) fd ≡ now + holders_of (take i rows) fd
     → now ≡ later + cond (holds fd row) 1 0 → before + holders_of (take n rows) fd ≡ later + holders_of (take (i + 1) rows) fd
-next_gone rows n i row fd before now later h is e g =
-    let b = one_more rows i row fd h in
-    let by_row : Row → ℕ = λ x. cond (holds fd x) 1 0 in
-    let c = ap by_row is in
-    omega (arith, b, c, e, g)
+next_gone = grind (arith, one_more)
 
 -- All rows from a number on were removed.
 pub all_gone : (rows : List Row) (n i fd before now : ℕ) → length rows ≤ i → before + holders_of (take n rows) fd ≡ now + holders_of (take i rows) fd → before ≡ now + holders_of (drop n rows) fd
-all_gone rows n i fd before now h e =
-    let a = cut rows n fd in
-    let b = ap (λ xs. holders_of xs fd) (take_all i rows h) in
-    omega (arith, a, b, e)
+all_gone = grind (arith, cut, take_all)
 
 -- ---- The counts of a table
 
 -- A count cannot overflow: there are too few rows.
 pub room : (rows : List Row) (held : Held) → Tallied rows held → (fd : ℕ) → holders held fd < 2 ^ 32 - 1
-room rows held t fd =
-    let a = t.counts fd in
-    let b = t.most in
-    omega (arith, a, b, matching-le-length (holds fd) rows)
+room = grind (arith, matching-le-length)
 
 pub room_less : (rows : List Row) (held between : Held) (row : Row) → Tallied rows held → ((fd : ℕ) → holders held fd ≡ holders between fd + cond (holds fd row) 1 0) → (fd : ℕ) → holders between fd < 2 ^ 32 - 1
 room_less rows held between row t off fd = let a = room rows held t fd in let b = off fd in omega (arith, a, b)
 
 positive : (n : ℕ) (b : Bool) (m : ℕ) → n ≡ cond b 1 0 + m → b ≡ true → 0 < n
-positive n true m h e = omega (arith, h)
-positive n false m h e = absurd cc
+positive = grind arith
 
 -- Each request that holds the descriptor is counted.
 pub counts_row : (rows : List Row) (held : Held) (r : ℕ) (row : Row) → Tallied rows held → slice_get rows r ≡ Some row → (fd : ℕ) → holds fd row ≡ true → 0 < holders held fd
@@ -89,33 +64,19 @@ counts_row rows held r row t h fd e =
 -- A row was replaced.
 pub tallied_set : (rows : List Row) (held between after : Held) (r : ℕ) (before row : Row) → Tallied rows held → slice_get rows r ≡ Some before →
     ((fd : ℕ) → holders held fd ≡ holders between fd + cond (holds fd before) 1 0) → ((fd : ℕ) → holders after fd ≡ holders between fd + cond (holds fd row) 1 0) → Tallied (slice_set rows r row) after
-tallied_set rows held between after r before row t h off on = record {
-  most = let m = t.most in let l = length-set_row rows r row in omega (arith, m, l);
-  counts = λ fd. let a = t.counts fd in let b = off fd in let c = on fd in let d = written rows r before row fd h in omega (arith, a, b, c, d);
-}
-  where
-    length-set_row : (xs : List Row) (i : ℕ) (x : Row) → length (slice_set xs i x) ≡ length xs
-    length-set_row [] i x = refl
-    length-set_row (y ∷ ys) zero x = refl
-    length-set_row (y ∷ ys) (suc i) x = ap suc (length-set_row ys i x)
+tallied_set = grind (arith, common_steps, written)
 
 -- A row was added at the end.
 pub tallied_push : (rows : List Row) (held after : Held) (row : Row) → Tallied rows held → length rows < 65536 →
     ((fd : ℕ) → holders after fd ≡ holders held fd + cond (holds fd row) 1 0) → Tallied (rows ++ row ∷ []) after
-tallied_push rows held after row t h on = record {
-  most = let l = length-push rows row in omega (arith, h, l);
-  counts = λ fd. let a = t.counts fd in let b = on fd in let c = matching-append (holds fd) rows (row ∷ []) in let d = matching-more (holds fd) row [] in omega (arith, a, b, c, d);
-}
+tallied_push = grind (arith, common_steps)
 
 -- Rows were dropped from the end.
 pub counts_dropped : (rows : List Row) (held : Held) (n : ℕ) → Tallied rows held → (fd : ℕ) → holders_of (drop n rows) fd ≤ holders held fd
 counts_dropped rows held n t fd = let a = t.counts fd in omega (arith, a, cut rows n fd)
 
 pub tallied_cut : (rows : List Row) (held after : Held) (n : ℕ) → Tallied rows held → ((fd : ℕ) → holders held fd ≡ holders after fd + holders_of (drop n rows) fd) → Tallied (take n rows) after
-tallied_cut rows held after n t off = record {
-  most = let m = t.most in let l = length-dropped rows n in omega (arith, m, l);
-  counts = λ fd. let a = t.counts fd in let b = off fd in omega (arith, a, b, cut rows n fd);
-}
+tallied_cut = grind (arith, length-dropped, cut)
 
 -- ---- A descriptor is held exactly if its count is positive
 

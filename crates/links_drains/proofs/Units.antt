@@ -1,14 +1,6 @@
 -- Tests of the rows of a chain, by sets of row numbers and after changes of the table.
-use Rattle.std.proofs.Common.{◌≡◌, ◌≢◌, ℕ, zero, suc, Bool, true, false, refl, sym, ◌∙◌, ap, List, [], ◌∷◌, ◌++◌, take, ◌≤◌, ◌⊎◌, inl, inr, arith}
-use Rattle.std.specs.Prelude.{Some, slice_get, slice_set, ◌==◌, ◌&&◌, ◌||◌, MatchBool}
-use Rattle.std.specs.Option.{option_map_or}
-use Rattle.std.specs.List.{list_any}
-use Rattle.std.proofs.lemmas.Bool.{both_ways, cases_lt, cases_Bool, eq-eqb, eqb-true, ne_eqb, and_from, and_parts, and_left, or_from, or_left, or_right}
+use Rattle.links_drains.proofs.Common.{◌≡◌, ◌≢◌, ℕ, zero, suc, Bool, true, false, refl, sym, ◌∙◌, ap, List, [], ◌∷◌, ◌++◌, take, ◌≤◌, arith, Some, slice_get, slice_set, ◌==◌, ◌&&◌, ◌||◌, MatchBool, option_map_or, list_any, cases_Bool, eq-eqb, eqb-true, ne_eqb, and_from, and_parts, and_left, or_from, or_left, or_right, Row, Chained, has, IsNext, passes_at, HasRowOf, HasNoRowOf}
 use Rattle.std.proofs.lemmas.List.Folds.{list_any-append}
-use Rattle.entries.specs.declared.row.Row.{Row}
-use Rattle.links_drains.specs.Links.{Chained}
-use Rattle.bit_sets.specs.Sets.{has, IsNext}
-use Rattle.links_drains.specs.Units.{passes_at, HasRowOf, HasNoRowOf}
 
 -- ---- Some item passes a test
 
@@ -43,11 +35,7 @@ any_set test (z ∷ zs) (suc i) x y h e = ap (λ b. test z || b) (any_set test z
 
 -- An item that fails the test is added.
 pub any_push : {X : Type 0} (test : X → Bool) (xs : List X) (y : X) → test y ≡ false → list_any test (xs ++ y ∷ []) ≡ list_any test xs
-any_push test xs y e = list_any-append test xs (y ∷ []) ∙ by (test y) (list_any test xs) e
-  where
-    by : (b c : Bool) → b ≡ false → (c || (b || false)) ≡ c
-    by b true e = refl
-    by b false e = or_from _ _ e refl
+any_push = grind (arith, list_any-append)
 
 -- Items that fail the test are dropped.
 pub any_take : {X : Type 0} (test : X → Bool) (xs : List X) (n : ℕ) → ((i : ℕ) (x : X) → n ≤ i → slice_get xs i ≡ Some x → test x ≡ false) → list_any test (take n xs) ≡ list_any test xs
@@ -69,9 +57,7 @@ other_unit : (test : Row → Bool) (unit : ℕ) (row : Row) → row.unit ≢ uni
 other_unit test unit row h = and_left _ _ (ne_eqb row.unit unit h)
 
 pub any_of_set : (test : Row → Bool) (rows : List Row) (r unit : ℕ) (before row : Row) → slice_get rows r ≡ Some before → row.unit ≡ before.unit → unit ≢ row.unit → any_of test (slice_set rows r row) unit ≡ any_of test rows unit
-any_of_set test rows r unit before row h same other =
-    any_set (of_unit test unit) rows r before row h
-    (other_unit test unit row (λ e. other (sym e)) ∙ sym (other_unit test unit before (λ e. other (sym (same ∙ e)))))
+any_of_set = grind (arith, any_set)
 
 pub any_of_push : (test : Row → Bool) (rows : List Row) (unit : ℕ) (row : Row) → unit ≢ row.unit → any_of test (rows ++ row ∷ []) unit ≡ any_of test rows unit
 any_of_push test rows unit row other = any_push (of_unit test unit) rows row (other_unit test unit row (λ e. other (sym e)))
@@ -105,16 +91,7 @@ passes_here test rows r row h = ap (λ o. option_map_or test o false) h
 
 -- The first number in the set, from the chain's first row on.
 pub first_of_unit : (words : List ℕ) (rows : List Row) (unit r : ℕ) (row : Row) → Chained rows → IsNext words unit r → slice_get rows r ≡ Some row → (b : Bool) → (row.unit == unit) ≡ b → MatchBool b (HasRowOf words rows unit) (HasNoRowOf words rows unit)
-first_of_unit words rows unit r row c next h true e = record { number = r; row = row; there = h; same = eqb-true row.unit unit e; member = next.member }
-first_of_unit words rows unit r row c next h false e = λ k x g same. elim (cases_lt k r) [
-  | inl less ↦ next.least k (let b = c.back k x g in omega (arith, b, same)) less
-  | inr le ↦ absurd (let a = next.after in both_ways (row.unit == unit) e (eq-eqb row.unit unit (c.run r k row x h g le (omega (arith, same, a)) ∙ same)))
-]
+first_of_unit = grind arith
 
 pub any_of_has : (test : Row → Bool) (words : List ℕ) (rows : List Row) (unit : ℕ) → ((r : ℕ) → has words r ≡ passes_at test rows r) → (b : Bool) → MatchBool b (HasRowOf words rows unit) (HasNoRowOf words rows unit) → b ≡ any_of test rows unit
-any_of_has test words rows unit ties true h = sym (any_of_true test rows h.number h.row unit h.there h.same (sym (passes_here test rows h.number h.row h.there) ∙ sym (ties h.number) ∙ h.member))
-any_of_has test words rows unit ties false h = sym (any_false (of_unit test unit) rows (λ r row e. by r row e (cases_Bool (row.unit == unit))))
-  where
-    by : (r : ℕ) (row : Row) → slice_get rows r ≡ Some row → ((row.unit == unit) ≡ true) ⊎ ((row.unit == unit) ≡ false) → of_unit test unit row ≡ false
-    by r row e (inl same) = ap (λ b. b && test row) same ∙ sym (passes_here test rows r row e) ∙ sym (ties r) ∙ h r row e (eqb-true row.unit unit same)
-    by r row e (inr other) = and_left _ _ other
+any_of_has = grind (arith, any_of_true, passes_here, any_false, cases_Bool, eqb-true, and_left)

@@ -1,26 +1,10 @@
 -- A cancellation completes unfinished requests, by ascending number.
 use Rattle.std.proofs.Common.{◌≡◌, ℕ, zero, suc, Bool, true, false, not, cond, refl, sym, ◌∙◌, ap, subst, List, [], ◌∷◌, ◌++◌, length, map, ◌+◌, ◌<◌, ◌≤◌, le_refl, arith}
-use Rattle.std.specs.Prelude.{Option, Some, None, slice_get, ◌==◌, ◌&&◌, nat_lt, if◌then◌else◌}
-use Rattle.std.specs.List.{filter, enumerate_from}
-use Rattle.std.proofs.lemmas.Bool.Decides.{nat_tests}
-use Rattle.std.proofs.lemmas.Option.{slice_get_within}
-use Rattle.entries.specs.declared.entry.Sqe.{Sqe}
-use Rattle.entries.specs.declared.row.Row.{Row}
-use Rattle.entries.specs.declared.row.Phase.{Phase}
-use Rattle.model_files.specs.Worlds.{WorldState}
-use Rattle.opcodes.specs.Outcomes.{is_running}
-use Rattle.links_drains.specs.Endings.{Ending, ecanceled, Direct}
-use Rattle.links_drains.specs.Links.{is_guard}
-use Rattle.links_drains.specs.Phases.{is_ended, is_issued, is_unfinished}
-use Rattle.links_drains.proofs.Chains.{enumerated}
+use Rattle.machine.proofs.Common.{Option, Some, slice_get, ◌==◌, ◌&&◌, nat_lt, if◌then◌else◌, filter, enumerate_from, slice_get_within, Sqe, Row, Phase, WorldState, is_running, Ending, ecanceled, Direct, is_guard, is_ended, is_issued, is_unfinished, enumerated, Verdict, on_found, verdict_of, canceled, ending_with}
 use Rattle.timeouts_cancel.specs.declared.matching.Key.{Key}
 use Rattle.timeouts_cancel.specs.declared.matching.Found.TheVariants.{Running, Waiting}
 use Rattle.timeouts_cancel.specs.Matches.{fits_key, is_match, matches_of, found_by, found_first, is_waiting_match, waiting_by}
 use Rattle.timeouts_cancel.proofs.Severing.{both}
-use Rattle.machine.specs.Cancels.{Verdict, on_found, verdict_of, canceled, ending_with}
-
-less_of : (a b : ℕ) → nat_lt a b ≡ true → a < b
-less_of a b k = grind (arith, nat_tests, k)
 
 -- ---- Sorted completions
 
@@ -75,8 +59,7 @@ rises_before rows me from (r ∷ rs) h l =
   where
     by : (b : Bool) → nat_lt r me ≡ b → (r + 1 ≤ me → Rises rows (r + 1) me (canceled (λ q. nat_lt q me) rs)) → Rises rows from me (canceled (λ q. nat_lt q me) rs)
         → Rises rows from me (map (λ (q : ℕ). (q, ecanceled)) (cond b (r ∷ filter (λ q. nat_lt q me) rs) (filter (λ q. nat_lt q me) rs)))
-    by true k kept skipped = let m = less_of r me k in (h.0, h.1, h.2, h.3, kept (omega (arith, m)))
-    by false k kept skipped = skipped
+    by = grind arith
 
 rises_after : (rows : List Row) (me start from : ℕ) (rs : List ℕ) → Others rows from rs → start ≤ length rows → ((r : ℕ) → from ≤ r → me < r → start ≤ r) → Rises rows start (length rows) (canceled (λ r. nat_lt me r) rs)
 rises_after rows me start from [] h l high = l
@@ -87,8 +70,7 @@ rises_after rows me start from (r ∷ rs) h l high =
   where
     by : (b : Bool) → nat_lt me r ≡ b → Rises rows (r + 1) (length rows) (canceled (λ q. nat_lt me q) rs) → Rises rows start (length rows) (canceled (λ q. nat_lt me q) rs)
         → Rises rows start (length rows) (map (λ (q : ℕ). (q, ecanceled)) (cond b (r ∷ filter (λ q. nat_lt me q) rs) (filter (λ q. nat_lt me q) rs)))
-    by true k kept skipped = (h.0, h.1, h.2, high r h.3 (less_of me r k), kept)
-    by false k kept skipped = skipped
+    by = grind arith
 
 direct_around : (rows : List Row) (me : ℕ) (x : Row) (v : Verdict) → slice_get rows me ≡ Some x → is_ended x.phase ≡ false → Others rows 0 v.1 → Direct rows (ending_with me v)
 direct_around rows me x v e u o =
@@ -114,8 +96,7 @@ others_from all test onwards n (row ∷ rows) there =
 
     by : (b : Bool) → test (n, row) ≡ b → Others all (n + 1) (map number (filter test (enumerate_from (n + 1) rows)))
         → Others all n (map number (cond b ((n, row) ∷ filter test (enumerate_from (n + 1) rows)) (filter test (enumerate_from (n + 1) rows))))
-    by true k rest = (row, here, onwards (n, row) k, le_refl n, rest)
-    by false k rest = others_less all n (n + 1) (map number (filter test (enumerate_from (n + 1) rows))) (omega arith) rest
+    by = grind (arith, others_less, here)
 
 -- An item that passes a filter's test is in the list.
 passing : {X : Type 0} (test : X → Bool) (xs : List X) (i : ℕ) (x : X) → slice_get (filter test xs) i ≡ Some x → (j : ℕ) × (slice_get xs j ≡ Some x) × (test x ≡ true)
@@ -151,8 +132,7 @@ others_found rows w key me = by (slice_get (matches_of rows key me) 0) refl
     waits p e false = let t = first_there rows (λ q. is_match key me q.0 q.1) p e in (p.1, t.0, match_open key me p t.1, omega arith, tt)
 
     by : (o : Option (ℕ × Row)) → slice_get (matches_of rows key me) 0 ≡ o → Others rows 0 (on_found (found_first w o)).1
-    by None e = tt
-    by (Some p) e = waits p e (is_running w p.1)
+    by = grind (arith, waits)
 
 others_of : (rows : List Row) (w : WorldState) (me : ℕ) (entry : Sqe) → Others rows 0 (verdict_of rows w me entry).1
 others_of = grind (arith, others_waiting, others_found)

@@ -1,26 +1,10 @@
 -- The requests of a cascade, and the machine after it.
-use Rattle.std.proofs.Common.{◌≡◌, ℕ, ℤ, zero, suc, Bool, true, false, cond, refl, sym, ◌∙◌, ap, subst, List, [], ◌∷◌, length, ◌+◌, ◌*◌, ◌<◌, ◌≤◌, ◌⊎◌, inl, inr, arith}
-use Rattle.std.proofs.lemmas.Bool.{eq-eqb}
-use Rattle.std.specs.Prelude.{Option, Some, None, option_map, slice_get, not}
-use Rattle.std.specs.Option.{option_map_or}
-use Rattle.entries.specs.declared.row.Row.{Row}
-use Rattle.entries.specs.declared.row.Phase.TheVariants.{Ended}
-use Rattle.model_files.specs.Worlds.{PutsWithin}
-use Rattle.opcodes.proofs.Counting.{puts_more}
-use Rattle.links_drains.specs.Endings.{ended_by, result_in, Direct}
+use Rattle.machine.proofs.Common.{◌≡◌, ℕ, ℤ, zero, suc, Bool, true, false, cond, refl, sym, ◌∙◌, ap, subst, List, [], ◌∷◌, length, ◌+◌, ◌*◌, ◌<◌, ◌≤◌, ◌⊎◌, inl, inr, arith, eq-eqb, Option, Some, None, option_map, slice_get, not, option_map_or, Row, Ended, PutsWithin, puts_more, ended_by, result_in, Direct, is_guard, map_numbered, is_ended, is_unfinished, ended_of, counted_in, fall_of, counted_cascade, unlisted, cascade_unfinished, cascade_rising, target_stays, AllGuardsLinked, GuardIsLinked, Mostly, NoneMet, RowFormed, WellFormed, Machine, mapped_at}
 use Rattle.links_drains.specs.Counts.{is_met}
-use Rattle.links_drains.specs.Links.{is_guard}
-use Rattle.links_drains.specs.Numbered.{map_numbered}
-use Rattle.links_drains.specs.Phases.{is_ended, is_unfinished, ended_of}
-use Rattle.timeouts_cancel.specs.Cascades.{counted_in, fall_of}
-use Rattle.timeouts_cancel.proofs.Whole.{counted_cascade, unlisted, cascade_unfinished, cascade_rising, target_stays}
 use Rattle.machine.specs.Steps.{all_ended, cascaded}
-use Rattle.machine.specs.Whole.{AllGuardsLinked, GuardIsLinked, Mostly, NoneMet, RowFormed, WellFormed}
-use Rattle.machine.specs.declared.whole.Machine.{Machine}
 use Rattle.machine.proofs.EndedRows.{CanEnd, can_end, ended_or_same, ended_together, unlisted_same}
 use Rattle.machine.proofs.FormedMachines.{mostly, mostly_ended, formed_of}
 use Rattle.machine.proofs.FormedRows.{ended_row}
-use Rattle.links_drains.proofs.EndingRows.{mapped_at}
 
 pub direct_cascade : (rows : List Row) (c : ℕ) (direct : List (ℕ × ℤ)) → Direct rows (fall_of rows c direct)
 direct_cascade rows c direct = record { each = cascade_unfinished rows c direct; rising = cascade_rising rows c direct }
@@ -63,12 +47,10 @@ cascaded_unmet m direct r x h = by (slice_get m.table r) refl (sym (mapped_at (e
     stays y e n false u = ap (λ k. is_met (m.counted + k) y) (counted_cascade m.table m.counted direct) ∙ (unlisted m.table m.counted direct r y e (ap not u) n).met
 
     by_result : (y : Row) → slice_get m.table r ≡ Some y → (o : Option ℤ) → result_in endings_so r ≡ o → is_met total (option_map_or (λ res. record y { phase = Ended res }) o y) ≡ false
-    by_result y e None n = stays y e n (is_ended y.phase) refl
-    by_result y e (Some res) n = refl
+    by_result = grind (arith, stays)
 
     by : (o : Option Row) → slice_get m.table r ≡ o → option_map (λ y. ended_by endings_so r y) o ≡ Some x → is_met total x ≡ false
-    by None e k = absurd cc
-    by (Some y) e k = let same : ended_by endings_so r y ≡ x = cc in ap (is_met total) (sym same) ∙ by_result y e (result_in endings_so r) refl
+    by = grind (arith, endings_so, total, by_result)
 
 -- After a cascade, linked timeouts come after their targets, if all but the direct completions did
 -- before.
@@ -126,10 +108,7 @@ direct_two rows t r n res y x g v h u l = record { each = each; rising = rising 
     each (suc (suc i)) p e = absurd cc
 
     rising : (i j : ℕ) (p q : ℕ × ℤ) → slice_get ((t, n) ∷ (r, res) ∷ []) i ≡ Some p → slice_get ((t, n) ∷ (r, res) ∷ []) j ≡ Some q → i < j → p.0 < q.0
-    rising i zero p q e o k = absurd (omega (arith, k))
-    rising zero (suc zero) p q e o k = let a : t ≡ p.0 = cc in let b : r ≡ q.0 = cc in omega (arith, a, b, l)
-    rising (suc i) (suc zero) p q e o k = absurd (omega (arith, k))
-    rising i (suc (suc j)) p q e o k = absurd cc
+    rising = grind arith
 
 -- So is one unfinished request.
 pub direct_one : (rows : List Row) (r : ℕ) (res : ℤ) (x : Row) → slice_get rows r ≡ Some x → is_ended x.phase ≡ false → Direct rows ((r, res) ∷ [])
@@ -140,5 +119,4 @@ direct_one rows r res x h u = record { each = each; rising = rising }
     each (suc i) p e = absurd cc
 
     rising : (i j : ℕ) (p q : ℕ × ℤ) → slice_get ((r, res) ∷ []) i ≡ Some p → slice_get ((r, res) ∷ []) j ≡ Some q → i < j → p.0 < q.0
-    rising i zero p q e g l = absurd (omega (arith, l))
-    rising i (suc j) p q e g l = absurd cc
+    rising = grind arith

@@ -1,21 +1,5 @@
 -- Requests that complete together.
-use Rattle.std.proofs.Common.{◌≡◌, ℕ, ℤ, zero, suc, Bool, true, false, cond, refl, sym, ◌∙◌, ap, subst, List, [], ◌∷◌, length, ◌+◌, ◌<◌, ◌≤◌, ◌⊎◌, arith, rules}
-use Rattle.std.proofs.lemmas.Bool.{eqb-true}
-use Rattle.std.specs.Prelude.{Option, Some, None, option_map, slice_get, not, ◌==◌}
-use Rattle.std.specs.Option.{option_map_or}
-use Rattle.entries.specs.declared.row.Row.{Row}
-use Rattle.entries.specs.declared.row.Phase.TheVariants.{Ended}
-use Rattle.places.specs.Lists.{updated}
-use Rattle.places.proofs.ListLemmas.{length-updated}
-use Rattle.links_drains.specs.Endings.{Direct, Ending, ended_by, result_in}
-use Rattle.links_drains.specs.Links.{Chained}
-use Rattle.links_drains.specs.Numbered.{map_numbered}
-use Rattle.links_drains.specs.Phases.{counted_of, counts, ended_of, is_ended}
-use Rattle.links_drains.proofs.Chains.{chained-updated}
-use Rattle.links_drains.proofs.Counting.{counted-ended, ended-ended, ended-le-length}
-use Rattle.links_drains.proofs.EndingRows.{first_ended, mapped_at, none_ended}
-use Rattle.links_drains.proofs.RowsKept.{get-updated}
-use Rattle.timeouts_cancel.specs.Cascades.{counted_in}
+use Rattle.machine.proofs.Common.{◌≡◌, ℕ, ℤ, zero, suc, Bool, true, false, cond, refl, sym, ◌∙◌, ap, subst, List, [], ◌∷◌, length, ◌+◌, ◌<◌, ◌≤◌, ◌⊎◌, arith, rules, eqb-true, Option, Some, None, option_map, slice_get, not, ◌==◌, option_map_or, Row, Ended, updated, length-updated, Direct, Ending, ended_by, result_in, Chained, map_numbered, counted_of, counts, ended_of, is_ended, chained-updated, counted-ended, ended-ended, ended-le-length, first_ended, mapped_at, none_ended, get-updated, counted_in}
 use Rattle.machine.proofs.GuardLemmas.{here}
 
 -- A request after it completed.
@@ -56,10 +40,7 @@ listed_once rows [] r row h g u = refl
 listed_once rows (e ∷ es) r row h g u = by (e.0 == r) refl (λ k. listed_once (updated (ending e.1) rows e.0) es r row h.3 k u)
   where
     by : (b : Bool) → (e.0 == r) ≡ b → (slice_get (updated (ending e.1) rows e.0) r ≡ Some row → result_in es r ≡ None) → cond b (Some e.1) (result_in es r) ≡ None
-    by true k more =
-        let same : h.0 ≡ row = let o = sym h.1 ∙ ap (slice_get rows) (eqb-true e.0 r k) ∙ g in cc in
-        absurd (let z : false ≡ true = sym h.2 ∙ ap (λ (x : Row). is_ended x.phase) same ∙ u in cc)
-    by false k more = more (get-updated (ending e.1) rows e.0 r ∙ ap (λ b. cond b (option_map (ending e.1) (slice_get rows r)) (slice_get rows r)) k ∙ g)
+    by = grind (arith, eqb-true, get-updated)
 
 -- ---- Counts
 
@@ -95,8 +76,7 @@ ended_first rows e es h k = subst (EndedTogether rows (e ∷ es)) first (record 
     first = first_ended rows e es (listed_once (updated (ending e.1) rows e.0) es e.0 (ending e.1 h.0) h.3 (here (ending e.1) rows e.0 h.0 h.1) refl)
 
     by : (n : ℕ) {a b c d l q : ℕ} (t : Bool) → a ≡ cond t (n + 1) n → l ≡ cond t 1 0 → b ≡ a + c → d ≡ l + q → c ≡ q → b ≡ n + d
-    by n true x y z w v = omega (arith, x, y, z, w, v)
-    by n false x y z w v = omega (arith, x, y, z, w, v)
+    by = grind arith
 
 pub ended_together : (rows : List Row) (es : List Ending) → CanEnd rows es → EndedTogether rows es (map_numbered (ended_by es) rows)
 ended_together rows [] h = subst (EndedTogether rows []) (sym (none_ended rows)) (record { ended = omega arith; counted = omega arith; chained = λ c. c; same_length = refl })

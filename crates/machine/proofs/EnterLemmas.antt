@@ -1,22 +1,8 @@
 -- Lemmas about Enter, and about events that need a request.
-use Rattle.std.proofs.Common.{◌≡◌, ℕ, Bool, true, false, sym, ◌∙◌, ap, List, length, ◌+◌, ◌<◌, ◌≤◌, arith}
+use Rattle.machine.proofs.Common.{◌≡◌, ℕ, Bool, true, false, sym, ◌∙◌, ap, List, length, ◌+◌, ◌<◌, ◌≤◌, arith, Option, Some, None, Result, Ok, Err, slice_get, slice_set, if◌then◌else◌, option_map_or, Row, Queued, Issued, ended-le-length, is_clear, einval, ebusy, flushed, before_submission, is_busy, submission_refusal, alone_refusal, issue_refusal, issued, held_by, lacks_descriptor, answered, entered, entered_without_poller, base_of, deadline_of, expire_refusal, is_guard_of, started, updated, updated_set, Ready, ThreadState, AllGuardsLinked, WellFormed, Machine}
 use Rattle.std.specs.Result.{OnOk}
-use Rattle.std.specs.Prelude.{Option, Some, None, Result, Ok, Err, slice_get, slice_set, if◌then◌else◌}
-use Rattle.std.specs.Option.{option_map_or}
-use Rattle.entries.specs.declared.row.Row.{Row}
-use Rattle.entries.specs.declared.row.Phase.TheVariants.{Queued, Issued}
 use Rattle.links_drains.specs.Eligible.{is_eligible}
-use Rattle.links_drains.proofs.Counting.{ended-le-length}
 use Rattle.ring_words.specs.Rings.{sub_list}
-use Rattle.overflow.specs.Backlogs.{is_clear}
-use Rattle.machine.specs.Submission.{einval, ebusy}
-use Rattle.machine.specs.Steps.{flushed, before_submission, is_busy, submission_refusal, alone_refusal, issue_refusal, issued, held_by, lacks_descriptor, answered, entered, entered_without_poller, base_of, deadline_of, expire_refusal, is_guard_of, started}
-use Rattle.places.specs.Lists.{updated}
-use Rattle.places.proofs.ListLemmas.{updated_set}
-use Rattle.places.specs.declared.value.Stage.TheVariants.{Ready}
-use Rattle.machine.specs.Threads.{ThreadState}
-use Rattle.machine.specs.Whole.{AllGuardsLinked, WellFormed}
-use Rattle.machine.specs.declared.whole.Machine.{Machine}
 use Rattle.machine.proofs.IssuingRows.{started_at_once}
 
 -- After a flush, no overflowed completion prevents the submission.

@@ -1,16 +1,5 @@
 -- The direct completions when a timer expires.
-use Rattle.std.proofs.Common.{◌≡◌, ℕ, true, sym, ◌∙◌, ap, List, [], ◌∷◌, arith}
-use Rattle.std.specs.Prelude.{Option, Some, slice_get}
-use Rattle.entries.specs.declared.row.Row.{Row}
-use Rattle.entries.specs.declared.row.Phase.TheVariants.{Issued}
-use Rattle.links_drains.specs.Endings.{Direct, ecanceled}
-use Rattle.links_drains.specs.Links.{is_guard}
-use Rattle.links_drains.specs.Phases.{is_ended, is_unfinished}
-use Rattle.model_files.specs.Worlds.{WorldState}
-use Rattle.machine.specs.Steps.{waiting_target}
-use Rattle.machine.specs.Submission.{etime}
-use Rattle.machine.specs.Whole.{WellFormed}
-use Rattle.machine.specs.declared.whole.Machine.{Machine}
+use Rattle.machine.proofs.Common.{◌≡◌, ℕ, true, sym, ◌∙◌, ap, List, [], ◌∷◌, arith, Option, Some, slice_get, Row, Issued, Direct, ecanceled, is_guard, is_ended, is_unfinished, WorldState, waiting_target, etime, WellFormed, Machine}
 use Rattle.machine.proofs.CascadedRows.{direct_two}
 
 -- Only a linked timeout has a target that waits.

@@ -1,57 +1,18 @@
 -- Accepted events preserve well-formedness.
-use Rattle.std.proofs.Common.{◌≡◌, ℕ, ℤ, zero, suc, pos, negsuc, Bool, true, false, cond, refl, sym, ◌∙◌, ap, List, [], ◌∷◌, length, ◌+◌, ◌*◌, ◌%◌, ◌<◌, ◌≤◌, ◌^◌, ◌⊎◌, inl, inr, arith, FitsSigned}
-use Rattle.std.specs.Prelude.{Option, Some, None, min, slice_get, slice_set, nat_lt, ◌==◌, ◌&&◌, if◌then◌else◌}
+use Rattle.machine.proofs.Common.{◌≡◌, ℕ, ℤ, pos, negsuc, Bool, true, false, cond, refl, ◌∙◌, ap, List, [], ◌∷◌, length, ◌+◌, ◌*◌, ◌%◌, ◌<◌, ◌≤◌, ◌^◌, inl, arith, FitsSigned, Option, Some, None, min, slice_get, slice_set, nat_lt, ◌==◌, ◌&&◌, if◌then◌else◌, Cqe, Row, Phase, is_held_by, Choice, Outcome, Res, Waits, BadChoice, outcome_of, world_after, stays_after, WorldState, PutsWithin, descriptor_of, world_closed, world_stored, Stage, Ready, Waiting, waiting, Poller, direct_of, is_ended, verdict_of, ending_with, offered, einval, ebusy, ebadf, ThreadState, WellFormed, Instruction, Put, Push, Store, Enter, Reap, Close, Machine, Event, Step, Take, Sleep, Issue, Finish, Expire, Tick, ended_of, fall_of, puts_after, puts_more, common_steps}
 use Rattle.std.specs.Int.{w64}
-use Rattle.std.proofs.lemmas.Bool.{eq-eqb}
-use Rattle.std.proofs.lemmas.Bool.Decides.{leb_tells}
-use Rattle.std.proofs.Math.Dec.{ltb}
-use Rattle.entries.specs.declared.completion.Cqe.{Cqe}
-use Rattle.entries.specs.declared.row.Row.{Row}
-use Rattle.entries.specs.declared.row.Phase.{Phase}
-use Rattle.entries.specs.declared.row.Phase.TheVariants.{Queued, Issued, Ended}
-use Rattle.links_drains.specs.Holding.{is_held_by}
-use Rattle.entries.specs.declared.choice.Choice.{Choice}
-use Rattle.opcodes.specs.declared.ending.Outcome.{Outcome}
-use Rattle.opcodes.specs.declared.ending.Outcome.TheVariants.{Res, Waits, BadChoice}
-use Rattle.opcodes.specs.Opcodes.{is_cancel, is_timer}
-use Rattle.opcodes.specs.Outcomes.{outcome_of}
-use Rattle.opcodes.specs.Effects.{world_after}
-use Rattle.opcodes.proofs.Staying.{stays_after}
-use Rattle.model_files.specs.Worlds.{WorldState, PutsWithin, descriptor_of, world_closed, world_stored}
 use Rattle.model_files.proofs.Fixing as worlds
 use Rattle.model_files.proofs.Forming.{world_stored_formed, world_closed_formed}
-use Rattle.places.specs.declared.value.Stage.{Stage}
-use Rattle.places.specs.declared.value.Stage.TheVariants.{Ready, Waiting}
-use Rattle.ring_words.specs.Rings.{waiting}
-use Rattle.sqpoll.specs.declared.poller.Poller.{Poller}
 use Rattle.sqpoll.specs.declared.poller.Poller.TheVariants.{Awake, Asleep}
-use Rattle.links_drains.specs.Batches.{direct_of}
-use Rattle.links_drains.specs.Phases.{is_ended}
-use Rattle.machine.specs.Cancels.{verdict_of, ending_with}
-use Rattle.machine.specs.Submission.{offered, einval, ebusy, ebadf}
 use Rattle.machine.specs.Steps.{refusal, after, resumed, stepped, executed, entered, entered_without_poller, entered_with_poller, submitting, before_submission, is_busy, is_unknown, gets_events, wakes, woken, shown, awaited, ready_count, held_back, with_poller, submission_refusal, alone_refusal, enter_refusal, instruction_refusal, next_refusal, closed, is_open, thread_refusal, phase_refusal, choice_refusal, finish_refusal, taken, submitted, answered, advanced, cancelled, finished, finished_as, lacks_descriptor, cascaded, all_started, entries_for, expired, expiring, waiting_target}
-use Rattle.machine.specs.Threads.{ThreadState}
-use Rattle.machine.specs.Whole.{WellFormed}
-use Rattle.scenario.specs.declared.setup.Instruction.{Instruction}
-use Rattle.scenario.specs.declared.setup.Instruction.TheVariants.{Put, Push, Store, Enter, Reap, Close}
-use Rattle.machine.specs.declared.whole.Machine.{Machine}
-use Rattle.scenario.specs.declared.event.Event.{Event}
-use Rattle.scenario.specs.declared.event.Event.TheVariants.{Step, Take, Sleep, Issue, Finish, Expire, Tick}
 use Rattle.scenario.specs.declared.event.Refusal.TheVariants.{SqFull, NothingToReap, WrongPhase}
 use Rattle.machine.proofs.FormedThreads.{well_formed_on, well_formed_held, formed_thread}
-use Rattle.links_drains.specs.Phases.{ended_of}
-use Rattle.timeouts_cancel.specs.Cascades.{fall_of}
-use Rattle.opcodes.proofs.Counting.{puts_after, puts_more}
 use Rattle.machine.proofs.FormedMachines.{formed_issued, formed_world, mostly, mostly_world, rows_moved, formed_flushed, formed_put, formed_push, formed_taken_out}
 use Rattle.machine.proofs.FormedSubmissions.{formed_submitted, length-taken_entries}
 use Rattle.machine.proofs.CascadedRows.{cascades_some, formed_cascaded, formed_cascaded_but, threads_cascaded}
 use Rattle.machine.proofs.EnterLemmas.{CanStart, can_start}
 use Rattle.machine.proofs.GuardLemmas.{eligible_no_guard}
 use Rattle.machine.proofs.PipeCounts.{puts_fit}
-use Rattle.std.proofs.lemmas.Grind.{common_steps}
-
-ltb_decides : (a b : ℕ) → ((ltb a b ≡ true) × (a < b)) ⊎ ((ltb a b ≡ false) × (b ≤ a))
-ltb_decides a b = elim (leb_tells (suc a) b) [ inl k ↦ inl (k.0, k.1) | inr k ↦ inr (k.0, let l = k.1 in omega arith) ]
 
 -- ---- Each event
 
@@ -92,17 +53,13 @@ formed_finish m r c f h = by (slice_get m.table r) refl h
     choosing x e q false = ending x e q (outcome_of (is_held_by m.table) m.world x c) refl
 
     at : (x : Row) → slice_get m.table r ≡ Some x → (p : Phase) → x.phase ≡ p → phase_refusal p (choice_refusal (is_held_by m.table) m.world x c) ≡ None → WellFormed (finished m r (Some x) c)
-    at x e Queued q k = absurd cc
-    at x e Issued q k = choosing x e (ap is_ended q) (is_cancel x.entry.opcode)
-    at x e (Ended n) q k = absurd cc
+    at = grind (arith, choosing)
 
     timing : (x : Row) → slice_get m.table r ≡ Some x → (b : Bool) → cond b (Some WrongPhase) (phase_refusal x.phase (choice_refusal (is_held_by m.table) m.world x c)) ≡ None → WellFormed (finished m r (Some x) c)
-    timing x e true k = absurd cc
-    timing x e false k = at x e x.phase refl k
+    timing = grind (arith, at)
 
     by : (o : Option Row) → slice_get m.table r ≡ o → finish_refusal (is_held_by m.table) m.world o c ≡ None → WellFormed (finished m r o c)
-    by None e k = absurd cc
-    by (Some x) e k = timing x e (is_timer x.entry.opcode) k
+    by = grind (arith, timing)
 
 -- ---- Each instruction
 
@@ -211,15 +168,7 @@ formed_pushing m t x index f e g r h = by _ refl h
     w = waiting m.submissions.head m.submissions.tail
 
     less : (w == length m.submissions.array) ≡ false → w < length m.submissions.array
-    less o = by_order (ltb_decides w (length m.submissions.array))
-      where
-        by_order : ((ltb w (length m.submissions.array) ≡ true) × (w < length m.submissions.array)) ⊎ ((ltb w (length m.submissions.array) ≡ false) × (length m.submissions.array ≤ w)) → w < length m.submissions.array
-        by_order (inl a) = a.1
-        by_order (inr a) =
-            let most = f.mostly.rings.entries_wait in
-            let least = a.1 in
-            let same : w ≡ length m.submissions.array = omega (arith, most, least) in
-            absurd (let k = sym (eq-eqb w (length m.submissions.array) same) ∙ o in cc)
+    less = grind arith
 
     by : (b : Bool) → (w == length m.submissions.array) ≡ b → (if b then Some SqFull else None) ≡ None → WellFormed (executed m t (Some (Push index)))
     by true o k = absurd cc
@@ -237,8 +186,7 @@ formed_reaping m t x f e g r h = by _ refl h
     got = slice_get m.completions.slots (m.completions.head % length m.completions.slots)
 
     some : (n : ℕ) → (n == 0) ≡ false → 0 < n
-    some zero o = absurd cc
-    some (suc n) o = omega arith
+    some = grind arith
 
     by : (b : Bool) → (w == 0) ≡ b → (if b then Some NothingToReap else None) ≡ None → WellFormed (executed m t (Some Reap))
     by true o k = absurd cc

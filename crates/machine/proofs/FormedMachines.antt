@@ -1,42 +1,15 @@
 -- Invariants that each change of the machine preserves.
-use Rattle.std.proofs.Common.{◌≡◌, ℕ, Bool, true, false, refl, sym, ◌∙◌, ap, subst, [], ◌∷◌, ◌++◌, length, ◌+◌, ◌*◌, ◌%◌, ◌<◌, ◌≤◌, ◌^◌, length-append, length-set, arith}
-use Rattle.std.proofs.lemmas.List.{length-drop}
+use Rattle.machine.proofs.Common.{◌≡◌, ℕ, Bool, true, false, refl, sym, ◌∙◌, ap, subst, [], ◌∷◌, ◌++◌, length, ◌+◌, ◌*◌, ◌%◌, ◌<◌, ◌≤◌, ◌^◌, length-append, length-set, arith, length-drop, option_map_or, eqb-true, WorldState, WorldFormed, descriptor_at, OneSetup as OneWorldSetup, uses_descriptor, Cqe, Sqe, Row, Phase, Queued, updated, length-updated, waiting, with_flag, formed_pushed, formed_entry, formed_flag, waiting_more, Direct, Ending, is_guard, is_ended, is_queued, counted-le-length, counted-unfinished, ended-unfinished, ended_of, PutsWithin, counted_in, all_ended, all_started, completion_of, completions_of, delivery, flushed, is_guard_of, is_usable, lacks_descriptor, posted, started, AllGuardsLinked, Mostly, NoneMet, is_asleep, flag_word, RowFormed, WellFormed, ThreadWellFormed, Machine, chained-updated, mapped_at}
 use Rattle.std.proofs.lemmas.List.Elements.{filter_map-append}
 use Rattle.std.specs.Prelude.{List, Option, Some, None, slice_get, slice_set, not, ◌&&◌, if◌then◌else◌}
-use Rattle.std.specs.Option.{option_map_or}
-use Rattle.std.proofs.lemmas.Bool.{eqb-true}
-use Rattle.model_files.specs.Worlds.{WorldState, WorldFormed, descriptor_at, OneSetup as OneWorldSetup}
-use Rattle.opcodes.specs.Opcodes.{uses_descriptor}
-use Rattle.entries.specs.declared.completion.Cqe.{Cqe}
-use Rattle.entries.specs.declared.entry.Sqe.{Sqe}
-use Rattle.entries.specs.declared.row.Row.{Row}
-use Rattle.entries.specs.declared.row.Phase.{Phase}
-use Rattle.entries.specs.declared.row.Phase.TheVariants.{Queued}
-use Rattle.places.specs.Lists.{updated}
-use Rattle.places.proofs.ListLemmas.{length-updated}
-use Rattle.ring_words.specs.Rings.{waiting, with_flag}
 use Rattle.ring_words.specs.declared.flag.RingFlag.TheVariants.{CqOverflow}
-use Rattle.ring_words.proofs.Laws.{formed_pushed, formed_entry, formed_flag}
-use Rattle.ring_words.proofs.Order.{waiting_more}
-use Rattle.links_drains.specs.Endings.{Direct, Ending}
-use Rattle.links_drains.specs.Links.{is_guard}
-use Rattle.links_drains.specs.Phases.{is_ended, is_queued}
-use Rattle.links_drains.proofs.Counting.{counted-le-length, counted-unfinished, ended-unfinished}
-use Rattle.links_drains.specs.Phases.{ended_of}
-use Rattle.model_files.specs.Worlds.{PutsWithin}
 use Rattle.overflow.specs.Backlogs.{BacklogState, is_clear, Delivery, DeliveryFormed, all_posted, flushed as flushed_delivery}
 use Rattle.overflow.proofs.KeptInOrder.{posted_formed, flushed_formed}
-use Rattle.timeouts_cancel.specs.Cascades.{counted_in}
 use Rattle.timeouts_cancel.proofs.Tallying.{few_counted}
-use Rattle.machine.specs.Steps.{all_ended, all_started, completion_of, completions_of, delivery, flushed, is_guard_of, is_usable, lacks_descriptor, posted, started}
-use Rattle.machine.specs.Whole.{AllGuardsLinked, Mostly, NoneMet, is_asleep, flag_word, RowFormed, WellFormed, ThreadWellFormed}
-use Rattle.machine.specs.declared.whole.Machine.{Machine}
-use Rattle.links_drains.proofs.Chains.{chained-updated}
 use Rattle.machine.proofs.EndedRows.{CanEnd, can_end, can_end_most, ended_together}
 use Rattle.machine.proofs.FormedRows.{FormedRows, formed_rows-updated, formed_rows-moved}
 use Rattle.machine.proofs.GuardLemmas.{apart, guard_is_guard_of, started_guards, started_in_turn}
 use Rattle.machine.proofs.IssuingRows.{started_at_once}
-use Rattle.links_drains.proofs.EndingRows.{mapped_at}
 
 pub mostly : (m : Machine) → WellFormed m → Mostly m
 mostly m h = h.mostly
@@ -165,9 +138,7 @@ started_one m rows r c n x s e q l = record {
 }
   where
     row : (y : Row) → slice_get rows r ≡ Some y → RowFormed m.world (started c n y)
-    row y k =
-        let same : x ≡ y = let o = sym e ∙ k in cc in
-        subst (λ (z : Row). RowFormed m.world (started c n z)) same (started_row m.world c n x q l (s.formed.each r x e))
+    row = grind (arith, started_row)
 
 -- A linked timeout uses no descriptor.
 guard_lacks_none : (w : WorldState) (y : Row) → is_guard y ≡ true → lacks_descriptor w y ≡ false

@@ -1,28 +1,9 @@
 -- The requests that a submission adds, and the invariant of each request.
-use Rattle.std.proofs.Common.{◌≡◌, ℕ, suc, Bool, true, false, not, cond, refl, sym, ◌∙◌, ap, subst, List, [], ◌∷◌, length, ◌≤◌, ◌⊎◌, inl, inr, arith}
-use Rattle.std.specs.Prelude.{Option, Some, None, IsSome, is_some, slice_get, ◌&&◌}
-use Rattle.std.specs.Option.{option_and_then}
-use Rattle.std.specs.Result.{result_err}
-use Rattle.std.specs.List.{filter}
-use Rattle.std.proofs.lemmas.Bool.{eqb-true}
-use Rattle.entries.specs.declared.entry.Sqe.{Sqe}
-use Rattle.entries.specs.declared.row.Row.{Row}
-use Rattle.entries.specs.declared.row.Phase.{Phase}
-use Rattle.entries.specs.declared.row.Phase.TheVariants.{Queued}
-use Rattle.model_files.specs.Worlds.{WorldState, OneSetup as OneWorldSetup}
+use Rattle.std.proofs.Common.{◌≡◌, ℕ, suc, Bool, true, false, not, cond, refl, sym, ◌∙◌, ap, subst, List, [], ◌∷◌, length, ◌≤◌, ◌⊎◌, arith}
+use Rattle.machine.proofs.Common.{Option, Some, None, IsSome, is_some, slice_get, ◌&&◌, option_and_then, result_err, filter, eqb-true, Sqe, Row, Phase, Queued, WorldState, OneSetup as OneWorldSetup, is_timer, updated, is_ended, is_issued, is_unfinished, counts, counted_of, previous_in, error_at, error_of, rows_of, matching-more, became, deadline_of, entries_at, IsTime, RowFormed, common_steps}
 use Rattle.model_files.proofs.Restoring.{descriptor_alike}
 use Rattle.opcodes.specs.Check.{check_of, op_of, time_of, timed}
-use Rattle.opcodes.specs.Opcodes.{is_timer}
-use Rattle.places.specs.Lists.{updated}
-use Rattle.links_drains.specs.Phases.{is_ended, is_issued, is_unfinished, counts, counted_of}
-use Rattle.links_drains.specs.Batches.{previous_in, error_at, error_of, rows_of}
-use Rattle.links_drains.proofs.Counting.{matching-more}
-use Rattle.links_drains.proofs.Chains.{became}
-use Rattle.machine.specs.Steps.{deadline_of}
-use Rattle.machine.specs.Submission.{entries_at}
-use Rattle.machine.specs.Whole.{IsTime, RowFormed}
 use Rattle.machine.proofs.ListsChanged.{updated_get}
-use Rattle.std.proofs.lemmas.Grind.{common_steps}
 
 -- ---- Valid entries
 
@@ -102,8 +83,7 @@ pub formed_rows-updated : (w : WorldState) (f : Row → Row) (rows : List Row) (
 formed_rows-updated w f rows r g h = record { each = λ j y e. by j y (updated_get f rows r j y e) }
   where
     by : (j : ℕ) (y : Row) → (slice_get rows j ≡ Some y) ⊎ ((z : Row) × (r ≡ j) × (slice_get rows j ≡ Some z) × (y ≡ f z)) → RowFormed w y
-    by j y (inl k) = h.each j y k
-    by j y (inr k) = subst (RowFormed w) (sym k.3) (g k.0 (ap (slice_get rows) k.1 ∙ k.2))
+    by = grind arith
 
 -- The objects and the memory change, but not their setup.
 row_moved : (w v : WorldState) (x : Row) → OneWorldSetup w v → RowFormed w x → RowFormed v x

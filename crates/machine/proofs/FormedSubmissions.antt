@@ -1,29 +1,8 @@
 -- Invariants that a submission preserves.
-use Rattle.std.proofs.Common.{◌≡◌, ℕ, ℤ, Bool, true, refl, sym, ◌∙◌, ap, subst, List, ◌++◌, length, ◌+◌, ◌*◌, ◌%◌, ◌<◌, ◌≤◌, ◌^◌, ◌⊎◌, inl, inr, length-append, length-take, arith}
-use Rattle.std.specs.Prelude.{Option, Some, None, slice_get}
-use Rattle.entries.specs.declared.entry.Sqe.{Sqe}
-use Rattle.std.proofs.lemmas.Grind.{common_steps}
-use Rattle.std.proofs.lemmas.Option.{gets}
-use Rattle.entries.specs.declared.row.Row.{Row}
+use Rattle.machine.proofs.Common.{◌≡◌, ℕ, ℤ, Bool, true, refl, sym, ◌∙◌, ap, subst, List, ◌++◌, length, ◌+◌, ◌*◌, ◌%◌, ◌<◌, ◌≤◌, ◌^◌, ◌⊎◌, inl, inr, length-append, length-take, arith, Option, Some, None, slice_get, Sqe, common_steps, gets, Row, formed_taken, sub_length, waiting_after, rows_of, direct_of, taken_of, result_in, Direct, PutsWithin, WorldState, puts_more, fall_of, is_guard, is_unfinished, ended_of, chained-batch, get-appended, counted-append, ended-append, GuardsAreLinked, offered, taken_words, taken_entries, entries_for, taken, submitted, GuardIsLinked, Mostly, RowFormed, WellFormed, Machine}
 use Rattle.ring_words.specs.Rings.{SubWords, SubFormed, waiting, sub_list}
-use Rattle.ring_words.proofs.Laws.{formed_taken, sub_length}
-use Rattle.ring_words.proofs.Order.{waiting_after}
-use Rattle.links_drains.specs.Batches.{rows_of, direct_of, taken_of}
-use Rattle.links_drains.specs.Endings.{result_in, Direct}
-use Rattle.model_files.specs.Worlds.{PutsWithin, WorldState}
-use Rattle.opcodes.proofs.Counting.{puts_more}
-use Rattle.timeouts_cancel.specs.Cascades.{fall_of}
-use Rattle.links_drains.specs.Links.{is_guard}
-use Rattle.links_drains.specs.Phases.{is_unfinished, ended_of}
 use Rattle.links_drains.proofs.Batching.{length-rows_of}
-use Rattle.links_drains.proofs.Chains.{chained-batch, get-appended}
-use Rattle.links_drains.proofs.Counting.{counted-append, ended-append}
 use Rattle.links_drains.proofs.DirectPairs.{direct-batch, unlisted_passes}
-use Rattle.timeouts_cancel.specs.Cascades.{GuardsAreLinked}
-use Rattle.machine.specs.Submission.{offered, taken_words, taken_entries}
-use Rattle.machine.specs.Steps.{entries_for, taken, submitted}
-use Rattle.machine.specs.Whole.{GuardIsLinked, Mostly, RowFormed, WellFormed}
-use Rattle.machine.specs.declared.whole.Machine.{Machine}
 use Rattle.machine.proofs.FormedMachines.{mostly}
 use Rattle.machine.proofs.CascadedRows.{formed_cascaded_but}
 use Rattle.machine.proofs.GuardLemmas.{batch_target_is, batch_guard, guard_before, guards_linked}
@@ -74,8 +53,7 @@ formed_submitted m k f l = formed_cascaded_but (taken m k) direct (mostly_taken 
     puts = puts_more (65536 * ended_of m.table) _ m.world (let a = ended-append m.table batch in omega (arith, a)) f.puts
 
     at : (i : ℕ) (y : Row) → slice_get batch i ≡ Some y → (o : Option ℤ) → result_in direct (length m.table + i) ≡ o → RowFormed m.world y ⊎ ((res : ℤ) × (result_in direct (length m.table + i) ≡ Some res))
-    at i y e None g = inl (batch_row m.world (length m.table) (entries_for m k) i y e (unlisted_passes m.world (length m.table) (entries_for m k) i y e g))
-    at i y e (Some res) g = inr (res, g)
+    at = grind (arith, batch_row, unlisted_passes)
 
     by : (j : ℕ) (y : Row) → (slice_get m.table j ≡ Some y) ⊎ ((i : ℕ) × (j ≡ length m.table + i) × (slice_get batch i ≡ Some y)) → RowFormed m.world y ⊎ ((res : ℤ) × (result_in direct j ≡ Some res))
     by j y (inl e) = inl (f.rows j y e)
@@ -108,5 +86,4 @@ cascades_in m n k f l e = subst (λ (x : Machine). CascadesIn x direct) (sym e) 
     direct = direct_of m.world (length m.table) (entries_for m k)
 
     by : (r t : ℕ) (x : Row) → is_guard x ≡ true → is_unfinished x.phase ≡ true → x.target ≡ Some t → (slice_get m.table r ≡ Some x) ⊎ ((i : ℕ) × (r ≡ length m.table + i) × (slice_get batch i ≡ Some x)) → t + 1 ≡ r
-    by r t x g u w (inl h) = guards_linked m.table f.guards r t x h g u w
-    by r t x g u w (inr h) = batch_target_is m.world (length m.table) (entries_for m k) h.0 t x h.2 g w ∙ sym h.1
+    by = grind (arith, guards_linked, batch_target_is)

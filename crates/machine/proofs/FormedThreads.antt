@@ -1,17 +1,6 @@
 -- Threads that advance remain within their programs.
-use Rattle.std.proofs.Common.{◌≡◌, ℕ, ℤ, sym, ◌∙◌, ap, subst, List, length, ◌+◌, ◌<◌, ◌^◌, ◌⊎◌, inl, inr, arith, FitsSigned}
-use Rattle.std.specs.Prelude.{Option, Some, slice_get}
+use Rattle.machine.proofs.Common.{◌≡◌, ℕ, ℤ, sym, ◌∙◌, ap, subst, List, length, ◌+◌, ◌<◌, ◌^◌, ◌⊎◌, inl, inr, arith, FitsSigned, Option, Some, slice_get, slice_get_within, Cqe, updated, Stage, Ready, Waiting, ThreadState, WellFormed, ThreadWellFormed, Instruction, Enter, Machine}
 use Rattle.std.specs.Int.{w64}
-use Rattle.std.proofs.lemmas.Option.{slice_get_within}
-use Rattle.entries.specs.declared.completion.Cqe.{Cqe}
-use Rattle.places.specs.Lists.{updated}
-use Rattle.places.specs.declared.value.Stage.{Stage}
-use Rattle.places.specs.declared.value.Stage.TheVariants.{Ready, Waiting}
-use Rattle.machine.specs.Threads.{ThreadState}
-use Rattle.machine.specs.Whole.{WellFormed, ThreadWellFormed}
-use Rattle.scenario.specs.declared.setup.Instruction.{Instruction}
-use Rattle.scenario.specs.declared.setup.Instruction.TheVariants.{Enter}
-use Rattle.machine.specs.declared.whole.Machine.{Machine}
 use Rattle.machine.proofs.ListsChanged.{updated_get}
 
 -- A thread that has an instruction advances.

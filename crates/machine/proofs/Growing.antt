@@ -1,43 +1,13 @@
 -- Accepted events preserve the setup, and remove no request and no item of the backlog.
-use Rattle.std.proofs.Common.{◌≡◌, ℕ, ℤ, pos, negsuc, Bool, true, false, refl, ap, List, [], ◌∷◌, ◌++◌, length, map, ◌+◌, ◌≤◌, arith, length-set, length-append, le_refl}
-use Rattle.std.specs.Prelude.{Option, Some, None, is_some, slice_get, nat_lt, ◌==◌, ◌||◌, if◌then◌else◌}
-use Rattle.entries.specs.declared.completion.Cqe.{Cqe}
-use Rattle.entries.specs.declared.row.Row.{Row}
-use Rattle.places.specs.Lists.{updated}
-use Rattle.places.specs.declared.value.Stage.{Stage}
-use Rattle.places.specs.declared.value.Stage.TheVariants.{Ready, Waiting}
-use Rattle.model_files.specs.Worlds.{WorldState, descriptor_of, world_closed, OneSetup as OneWorldSetup}
-use Rattle.links_drains.specs.Holding.{is_held_by}
-use Rattle.links_drains.specs.Rows.{fixed_of}
-use Rattle.entries.specs.declared.choice.Choice.{Choice}
-use Rattle.opcodes.specs.declared.ending.Outcome.{Outcome}
-use Rattle.opcodes.specs.declared.ending.Outcome.TheVariants.{Res, Waits, BadChoice}
-use Rattle.opcodes.specs.Opcodes.{is_cancel}
-use Rattle.opcodes.specs.Outcomes.{outcome_of}
-use Rattle.opcodes.specs.Effects.{world_after}
+use Rattle.machine.proofs.Common.{◌≡◌, ℕ, ℤ, pos, negsuc, Bool, true, false, refl, ap, List, [], ◌∷◌, ◌++◌, length, map, ◌+◌, ◌≤◌, arith, length-set, length-append, le_refl, Option, Some, None, is_some, slice_get, nat_lt, ◌==◌, ◌||◌, if◌then◌else◌, Cqe, Row, updated, Stage, Ready, Waiting, WorldState, descriptor_of, world_closed, OneSetup as OneWorldSetup, is_held_by, fixed_of, Choice, Outcome, Res, Waits, BadChoice, is_cancel, outcome_of, world_after, stays_after, rows_of, direct_of, Poller, verdict_of, ending_with, einval, ebusy, ebadf, fall_of, ThreadState, program_of, Grows, WellFormed, Instruction, Put, Push, Store, Enter, Reap, Close, Machine, Event, Step, Take, Sleep, Issue, Finish, Expire, Tick, stay_append, common_steps}
 use Rattle.machine.proofs.PipeCounts.{puts_fit}
-use Rattle.opcodes.proofs.Staying.{stays_after}
-use Rattle.links_drains.specs.Batches.{rows_of, direct_of}
 use Rattle.overflow.proofs.Posting.{posted_slots}
-use Rattle.sqpoll.specs.declared.poller.Poller.{Poller}
 use Rattle.sqpoll.specs.declared.poller.Poller.TheVariants.{Asleep}
 use Rattle.model_files.proofs.Fixing as worlds
-use Rattle.machine.specs.Cancels.{verdict_of, ending_with}
-use Rattle.machine.specs.Submission.{einval, ebusy, ebadf}
-use Rattle.timeouts_cancel.specs.Cascades.{fall_of}
 use Rattle.machine.specs.Steps.{refusal, after, resumed, stepped, executed, entered, entered_without_poller, entered_with_poller, submitting, before_submission, is_busy, is_unknown, gets_events, woken, shown, awaited, with_poller, closed, is_open, posted, flushed, all_ended, cascaded, taken, submitted, answered, issued, cancelled, finished, finished_as, lacks_descriptor, all_started, entries_for, expired, expiring, is_guard_of, started, started_with, waiting_target}
-use Rattle.machine.specs.Threads.{ThreadState, program_of}
-use Rattle.machine.specs.Whole.{Grows, WellFormed}
-use Rattle.scenario.specs.declared.setup.Instruction.{Instruction}
-use Rattle.scenario.specs.declared.setup.Instruction.TheVariants.{Put, Push, Store, Enter, Reap, Close}
-use Rattle.machine.specs.declared.whole.Machine.{Machine}
-use Rattle.scenario.specs.declared.event.Event.{Event}
-use Rattle.scenario.specs.declared.event.Event.TheVariants.{Step, Take, Sleep, Issue, Finish, Expire, Tick}
 use Rattle.machine.proofs.ListsChanged.{map_updated}
 use Rattle.machine.proofs.MappedRows.{mapped_length, mapped_stay}
-use Rattle.links_drains.proofs.Remaining.{stay_append}
 use Rattle.machine.proofs.Restored.{setup_self}
-use Rattle.std.proofs.lemmas.Grind.{common_steps}
 
 pub grows_self : (m : Machine) → Grows m m
 grows_self m = record { setup = setup_self m; rows = le_refl _; stay = λ r l. refl; backlog = le_refl _ }
@@ -192,8 +162,7 @@ grows_issued m r (Some x) = by (lacks_descriptor m.world x)
     }
       where
         same : (row : Row) (c : Bool) → fixed_of (if c then started m.clock m.counted row else row) ≡ fixed_of row
-        same row true = refl
-        same row false = refl
+        same = grind arith
 
 pub grows_finished : (m : Machine) (r : ℕ) (c : Choice) → WellFormed m → (o : Option Row) → Grows m (finished m r o c)
 grows_finished m r c f None = grows_self m

@@ -1,26 +1,7 @@
 -- Linked timeouts come directly after their targets.
-use Rattle.std.proofs.Common.{◌≡◌, ℕ, ℤ, zero, suc, Bool, true, false, not, cond, refl, sym, ◌∙◌, ap, subst, List, [], ◌∷◌, ◌++◌, length, ◌+◌, ◌-◌, inl, inr, arith}
-use Rattle.std.specs.Prelude.{Option, Some, None, option_map, is_none, slice_get, ◌==◌, ◌&&◌, if◌then◌else◌}
-use Rattle.std.specs.Option.{option_and_then, option_map_or}
-use Rattle.std.specs.Result.{result_err}
-use Rattle.std.proofs.lemmas.Bool.{cases_eq, eq-eqb, eqb-true, ne_eqb}
-use Rattle.entries.specs.declared.entry.Sqe.{Sqe}
-use Rattle.entries.specs.declared.row.Row.{Row}
-use Rattle.entries.specs.declared.row.Phase.{Phase}
-use Rattle.entries.specs.declared.row.Phase.TheVariants.{Queued}
-use Rattle.model_files.specs.Worlds.{WorldState}
+use Rattle.machine.proofs.Common.{◌≡◌, ℕ, ℤ, zero, suc, Bool, true, false, cond, refl, sym, ◌∙◌, ap, subst, List, [], ◌∷◌, ◌++◌, length, ◌+◌, ◌-◌, inl, inr, arith, Option, Some, None, option_map, is_none, slice_get, ◌==◌, ◌&&◌, if◌then◌else◌, option_and_then, option_map_or, result_err, cases_eq, eq-eqb, eqb-true, ne_eqb, Sqe, Row, Phase, Queued, WorldState, updated, previous_in, chain_of, error_at, error_of, row_of as batch_row_of, rows_of, shown_on, is_guard, is_linked, is_queued, is_unfinished, Became, became, get-batch, get-appended, get-updated, GuardsAreLinked, is_guard_of, started, AllGuardsLinked, GuardIsLinked, WellFormed, Machine}
 use Rattle.opcodes.specs.Check.{can_guard, check_of}
-use Rattle.places.specs.Lists.{updated}
-use Rattle.links_drains.specs.Batches.{previous_in, chain_of, error_at, error_of, row_of as batch_row_of, rows_of, shown_on}
 use Rattle.links_drains.specs.Eligible.{GuardsFollow, is_eligible}
-use Rattle.links_drains.specs.Links.{is_guard, is_linked}
-use Rattle.links_drains.specs.Phases.{is_queued, is_unfinished}
-use Rattle.links_drains.proofs.Chains.{Became, became, get-batch, get-appended}
-use Rattle.links_drains.proofs.RowsKept.{get-updated}
-use Rattle.timeouts_cancel.specs.Cascades.{GuardsAreLinked}
-use Rattle.machine.specs.Steps.{is_guard_of, started}
-use Rattle.machine.specs.Whole.{AllGuardsLinked, GuardIsLinked, WellFormed}
-use Rattle.machine.specs.declared.whole.Machine.{Machine}
 
 -- ---- What cascades require of linked timeouts
 
@@ -66,16 +47,10 @@ before_of es zero h = absurd cc
 before_of es (suc j) h = by (slice_get es j) refl h
   where
     shown : (p : Sqe) → slice_get es j ≡ Some p → (b : Bool) → is_linked p ≡ b → can_guard (if b then Some p.opcode else None) ≡ true → Before es (suc j)
-    shown p e true l k = record { index = j; is = refl; entry = p; there = e; linked = l; other = negated (p.opcode == 15) k }
-      where
-        negated : (c : Bool) → not c ≡ true → c ≡ false
-        negated true q = absurd cc
-        negated false q = refl
-    shown p e false l k = absurd cc
+    shown = grind arith
 
     by : (o : Option Sqe) → slice_get es j ≡ o → can_guard (option_and_then shown_on o) ≡ true → Before es (suc j)
-    by None e k = absurd cc
-    by (Some p) e k = shown p e (is_linked p) refl k
+    by = grind arith
 
 pub batch_guard : (w : WorldState) (rows : List Row) (es : List Sqe) (i : ℕ) (x : Row) → slice_get (rows_of w (length rows) es) i ≡ Some x → is_guard x ≡ true → error_at w es i ≡ None
     → GuardIsLinked (rows ++ rows_of w (length rows) es) (length rows + i) x
@@ -127,12 +102,7 @@ batch_target_is w first es i t x h g k = by (error_of w es i b.entry) refl (sym 
     number = sym (ap is_guard b.is) ∙ g
 
     by : (o : Option ℤ) → error_of w es i b.entry ≡ o → (if (b.entry.opcode == 15) && is_none o then Some (first + i - 1) else None) ≡ Some t → t + 1 ≡ first + i
-    by None e q =
-        let v = before_of es i (passes_previous w (previous_in es i) b.entry (eqb-true b.entry.opcode 15 number) e) in
-        let s : first + i - 1 ≡ t = let o : Some (first + i - 1) ≡ Some t = sym (ap (λ c. if c && true then Some (first + i - 1) else None) number) ∙ q in cc in
-        let k = v.is in
-        omega (arith, s, k)
-    by (Some n) e q = absurd (let o : None ≡ Some t = sym (ap (λ c. if c && false then Some (first + i - 1) else None) number) ∙ q in cc)
+    by = grind (arith, before_of, passes_previous, eqb-true, number)
 
 -- ---- A request is issued together with its linked timeout
 

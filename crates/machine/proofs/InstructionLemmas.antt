@@ -1,13 +1,5 @@
 -- What well-formedness says about a thread's next instruction.
-use Rattle.std.proofs.Common.{◌≡◌, ℕ, sym, ◌∙◌, ap, subst, List, length, ◌+◌, ◌<◌, ◌^◌, arith}
-use Rattle.std.specs.Prelude.{Some, slice_get}
-use Rattle.std.proofs.lemmas.Option.{slice_get_within}
-use Rattle.scenario.specs.Programs.{IsDone}
-use Rattle.machine.specs.Threads.{ThreadState}
-use Rattle.machine.specs.Steps.{next_of}
-use Rattle.machine.specs.Whole.{WellFormed}
-use Rattle.scenario.specs.declared.setup.Instruction.{Instruction}
-use Rattle.machine.specs.declared.whole.Machine.{Machine}
+use Rattle.machine.proofs.Common.{◌≡◌, ℕ, sym, ◌∙◌, ap, subst, List, length, ◌+◌, ◌<◌, ◌^◌, arith, Some, slice_get, slice_get_within, IsDone, ThreadState, next_of, WellFormed, Instruction, Machine}
 
 -- There is a thread, whose next instruction this is.
 pub thread_of : (m : Machine) (t : ℕ) (i : Instruction) → next_of (slice_get m.threads t) ≡ Some i → (x : ThreadState) × (slice_get m.threads t ≡ Some x) × (slice_get x.program x.counter ≡ Some i)

@@ -1,3 +1,4 @@
+mod Common
 pub mod ThreadLemmas
 pub mod Lifting
 pub mod Staying

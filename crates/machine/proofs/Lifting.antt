@@ -1,26 +1,8 @@
 -- Changes that a part of the machine records correctly are recorded correctly for the whole
 -- machine.
-use Rattle.std.proofs.Common.{◌≡◌, ℕ, ◌<◌, Bool, true, false, refl, length, List, arith}
-use Rattle.std.specs.Prelude.{Option, Some, slice_set, if◌then◌else◌}
-use Rattle.entries.specs.declared.entry.Sqe.{Sqe}
-use Rattle.entries.specs.declared.row.Row.{Row}
-use Rattle.places.specs.declared.place.Place.{Place}
-use Rattle.places.specs.declared.place.Place.TheVariants.{SubmissionHead, SubmissionTail, SubmissionFlags, SubmissionDropped, Array, Slot, MemoryByte, FileByte, DurableByte, FileLength, DurableLength, Position, OpenMark, PipeByte, PutCount, TakenCount, EventCount, Request, Backlog, BacklogFront, Clock, Counted, ProgramCounter, ThreadStage, Last, Got}
-use Rattle.places.specs.declared.value.Value.{Value}
-use Rattle.places.specs.declared.value.Value.TheVariants.{Number, Entry}
-use Rattle.places.specs.declared.value.Change.{Change}
+use Rattle.machine.proofs.Common.{◌≡◌, ℕ, ◌<◌, Bool, true, false, refl, length, List, arith, Option, Some, slice_set, if◌then◌else◌, Sqe, Row, Place, SubmissionHead, SubmissionTail, SubmissionFlags, SubmissionDropped, Array, Slot, MemoryByte, FileByte, DurableByte, FileLength, DurableLength, Position, OpenMark, PipeByte, PutCount, TakenCount, EventCount, Request, Backlog, BacklogFront, Clock, Counted, ProgramCounter, ThreadStage, Last, Got, Value, Number, Entry, Change, put_at, Keeps, Noted, same_place_is, keeps_noted, SubWords, sub_owns, sub_seen, WorldState, world_owns, world_seen, table_owns, table_seen, BacklogState, backlog_owns, backlog_seen, ThreadState, threads_owns, threads_seen, view, everywhere, Machine}
 use Rattle.places.specs.Places.{same_place}
-use Rattle.places.specs.View.{put_at, Keeps, Noted}
-use Rattle.places.proofs.SamePlace.{same_place_is}
-use Rattle.places.proofs.Keeping.{keeps_noted}
 use Rattle.ring_words.proofs.Seen.{sub_seen_slot}
-use Rattle.ring_words.specs.Rings.{SubWords, sub_owns, sub_seen}
-use Rattle.model_files.specs.Worlds.{WorldState, world_owns, world_seen}
-use Rattle.links_drains.specs.Rows.{table_owns, table_seen}
-use Rattle.overflow.specs.Backlogs.{BacklogState, backlog_owns, backlog_seen}
-use Rattle.machine.specs.Threads.{ThreadState, threads_owns, threads_seen}
-use Rattle.machine.specs.Whole.{view, everywhere}
-use Rattle.machine.specs.declared.whole.Machine.{Machine}
 
 pub lift_world : (m : Machine) (w : WorldState) (cs ds : List Change) → Keeps world_owns (world_seen m.world) (world_seen w) cs ds → Keeps everywhere (view m) (view (record m { world = w })) cs ds
 lift_world = grind arith

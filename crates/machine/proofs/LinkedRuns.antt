@@ -1,10 +1,5 @@
 -- Lemmas about runs whose records lead back.
-use Rattle.std.proofs.Common.{◌≡◌, ℕ, zero, suc, ◌<◌, List, [], ◌∷◌, ◌++◌, length, take, get_or, refl, sym, ap, ◌∙◌, subst, arith}
-use Rattle.places.specs.declared.value.Change.{Change}
-use Rattle.machine.specs.declared.whole.Machine.{Machine}
-use Rattle.scenario.specs.declared.event.Event.{Event}
-use Rattle.machine.specs.Steps.{after}
-use Rattle.machine.specs.Runs.{run, Accepts, Link, Linked}
+use Rattle.machine.proofs.Common.{◌≡◌, ℕ, zero, suc, ◌<◌, List, [], ◌∷◌, ◌++◌, length, take, get_or, refl, sym, ap, ◌∙◌, subst, arith, Change, Machine, Event, after, run, Accepts, Link, Linked}
 
 pub linked_runs : (s m : Machine) (es : List Event) (rs : List (List Change)) → Linked s es rs m → m ≡ run s es
 linked_runs s m [] [] l = l

@@ -1,16 +1,7 @@
 -- Steps of a run, and going back over them.
-use Rattle.std.proofs.Common.{◌≡◌, ℕ, refl, sym, ◌∙◌, ap, subst, List, [], ◌∷◌, ◌++◌, length, take, ◌+◌, ◌≤◌, arith}
-use Rattle.std.proofs.lemmas.List.{take_more}
+use Rattle.machine.proofs.Common.{◌≡◌, ℕ, refl, sym, ◌∙◌, ap, subst, List, [], ◌∷◌, ◌++◌, length, take, ◌+◌, ◌≤◌, arith, take_more, slice_get_within, get_or_from_slice_get, Some, None, unwrap_or, slice_get, Place, Change, view, everywhere, Grows, GoesBack, Link, Linked, Machine, Event}
 use Rattle.std.proofs.Math.Seq.{take-length}
-use Rattle.std.proofs.lemmas.Option.{slice_get_within, get_or_from_slice_get}
-use Rattle.std.specs.Prelude.{Some, None, unwrap_or, slice_get}
-use Rattle.places.specs.declared.place.Place.{Place}
-use Rattle.places.specs.declared.value.Change.{Change}
 use Rattle.places.specs.View.{View, named, undo, undo_all, Keeps, LeadsBack}
-use Rattle.machine.specs.Whole.{view, everywhere, Grows, GoesBack}
-use Rattle.machine.specs.Runs.{Link, Linked}
-use Rattle.machine.specs.declared.whole.Machine.{Machine}
-use Rattle.scenario.specs.declared.event.Event.{Event}
 use Rattle.machine.proofs.Growing.{grows_after}
 
 -- The record of a step leads back.

@@ -1,7 +1,5 @@
 -- Lists in which one item changed.
-use Rattle.std.proofs.Common.{◌≡◌, ℕ, zero, suc, refl, sym, ap, List, [], ◌∷◌, map, ◌⊎◌, inl, inr}
-use Rattle.std.specs.Prelude.{Some, slice_get}
-use Rattle.places.specs.Lists.{updated}
+use Rattle.machine.proofs.Common.{◌≡◌, ℕ, zero, suc, refl, sym, ap, List, [], ◌∷◌, map, ◌⊎◌, inl, inr, Some, slice_get, updated}
 
 -- An item of the changed list.
 pub updated_get : {X : Type 0} (f : X → X) (xs : List X) (i j : ℕ) (y : X) → slice_get (updated f xs i) j ≡ Some y → (slice_get xs j ≡ Some y) ⊎ ((x : X) × (i ≡ j) × (slice_get xs j ≡ Some x) × (y ≡ f x))

@@ -1,9 +1,6 @@
 -- Runs that are extended by events.
 use Rattle.std.proofs.Common.{◌≡◌, ◌+◌, List, [], ◌∷◌, ◌++◌, None, refl}
-use Rattle.scenario.specs.declared.event.Event.{Event}
-use Rattle.machine.specs.declared.whole.Machine.{Machine}
-use Rattle.machine.specs.Steps.{after, refusal}
-use Rattle.machine.specs.Runs.{run, Accepts}
+use Rattle.machine.proofs.Common.{Event, Machine, after, refusal, run, Accepts}
 
 pub run-append : (s : Machine) (es fs : List Event) → run s (es ++ fs) ≡ run (run s es) fs
 run-append s [] fs = refl

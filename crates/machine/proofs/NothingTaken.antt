@@ -1,28 +1,8 @@
 -- A submission of nothing changes nothing.
-use Rattle.std.proofs.Common.{◌≡◌, ℕ, ℤ, pos, Bool, true, false, refl, sym, ◌∙◌, ap, List, [], length, ◌+◌, ◌⊎◌, inl, inr, arith, rules}
-use Rattle.std.specs.Prelude.{Option, Some, None, slice_get, not, ◌&&◌, if◌then◌else◌}
-use Rattle.std.specs.Option.{option_map_or}
-use Rattle.entries.specs.declared.row.Row.{Row}
-use Rattle.links_drains.specs.Batches.{direct_of, rows_of}
-use Rattle.links_drains.specs.Endings.{ecanceled, ended_by, endings, given, or_else, result_in}
-use Rattle.links_drains.specs.Links.{is_guard}
-use Rattle.links_drains.specs.Numbered.{map_numbered}
-use Rattle.links_drains.specs.Phases.{is_unfinished}
-use Rattle.links_drains.proofs.Chains.{became}
-use Rattle.links_drains.proofs.EndingRows.{none_ended}
-use Rattle.model_files.specs.Worlds.{WorldState}
-use Rattle.ring_words.specs.Rings.{SubWords}
-use Rattle.overflow.specs.Backlogs.{Delivery, all_posted, is_clear}
-use Rattle.timeouts_cancel.specs.Cascades.{fall_of, guards_listed, is_met, with_guards, with_met, with_severed}
+use Rattle.machine.proofs.Common.{◌≡◌, ℕ, ℤ, pos, Bool, false, refl, sym, ◌∙◌, ap, List, [], length, ◌+◌, ◌⊎◌, inl, inr, arith, rules, Option, Some, None, slice_get, not, if◌then◌else◌, Row, direct_of, rows_of, ecanceled, ended_by, endings, given, or_else, result_in, map_numbered, is_unfinished, became, none_ended, WorldState, SubWords, Delivery, all_posted, is_clear, fall_of, guards_listed, is_met, with_guards, with_met, with_severed, taken_entries, NoneMet, WellFormed, flag_word, is_asleep, Machine, Enter, Take, common_steps}
 use Rattle.timeouts_cancel.proofs.Listed.{upto_all}
-use Rattle.machine.specs.Submission.{taken_entries}
 use Rattle.machine.specs.Steps.{after, all_ended, answered, delivery, entries_for, executed, cascaded, submitted, taken, with_delivery}
-use Rattle.machine.specs.Whole.{NoneMet, WellFormed, flag_word, is_asleep}
-use Rattle.machine.specs.declared.whole.Machine.{Machine}
-use Rattle.scenario.specs.declared.setup.Instruction.TheVariants.{Enter}
-use Rattle.scenario.specs.declared.event.Event.TheVariants.{Take}
 use Rattle.machine.proofs.FormedSubmissions.{old_or_new}
-use Rattle.std.proofs.lemmas.Grind.{common_steps}
 
 pub empty : {X : Type 0} (xs : List X) → length xs ≡ 0 → xs ≡ []
 empty = grind (arith, common_steps)
@@ -34,8 +14,7 @@ none_listed : (f : ℕ → Row → Option ℤ) (rows : List Row) → ((r : ℕ) 
 none_listed f rows h = sym (upto_all f rows 0 (λ r row l e. by r row e (is_unfinished row.phase)))
   where
     by : (r : ℕ) (row : Row) → slice_get rows r ≡ Some row → (b : Bool) → (if b then f r row else None) ≡ None
-    by r row e true = h r row e
-    by r row e false = refl
+    by = grind arith
 
 pub nothing_listed : (rows : List Row) (counted : ℕ) → NoneMet counted rows → fall_of rows counted [] ≡ []
 nothing_listed rows counted h =
@@ -48,12 +27,7 @@ nothing_listed rows counted h =
     unmet r row e = let n : counted + 0 ≡ counted = omega arith in ap (λ k. given (is_met k row) (pos 0)) n ∙ ap (λ b. given b (pos 0)) (h r row e)
 
     unguarded : (r : ℕ) (row : Row) → slice_get rows r ≡ Some row → given (guards_listed [] row) ecanceled ≡ None
-    unguarded r row e = by (is_guard row) row.target
-      where
-        by : (b : Bool) (o : Option ℕ) → given (b && option_map_or (λ t. false) o false) ecanceled ≡ None
-        by true None = refl
-        by true (Some t) = refl
-        by false o = refl
+    unguarded = grind arith
 
 -- Posting none changes nothing.
 none_posted : (d : Delivery) (a : Bool) → d.submissions.flags ≡ flag_word a (not (is_clear d.backlog)) → all_posted d [] ≡ d

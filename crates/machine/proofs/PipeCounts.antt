@@ -1,11 +1,5 @@
 -- How many bytes are written to pipes in a whole run.
-use Rattle.std.proofs.Common.{◌*◌, ◌^◌, arith}
-use Rattle.links_drains.specs.Phases.{ended_of}
-use Rattle.links_drains.proofs.Counting.{ended-le-length}
-use Rattle.model_files.specs.Worlds.{PutsWithin}
-use Rattle.opcodes.proofs.Counting.{puts_more}
-use Rattle.machine.specs.Whole.{WellFormed}
-use Rattle.machine.specs.declared.whole.Machine.{Machine}
+use Rattle.machine.proofs.Common.{◌*◌, ◌^◌, arith, ended_of, ended-le-length, PutsWithin, puts_more, WellFormed, Machine}
 
 -- The counters of pipes have room for the bytes of one more request.
 pub puts_fit : (m : Machine) → WellFormed m → PutsWithin (2 ^ 63) m.world

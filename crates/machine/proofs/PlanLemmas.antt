@@ -1,21 +1,5 @@
 -- Plans of events.
-use Rattle.std.proofs.Common.{◌≡◌, ◌∙◌, ℕ, ℤ, false, sym, ap, cond, arith}
-use Rattle.std.specs.Prelude.{Some, slice_get}
-use Rattle.std.specs.Option.{option_map_or}
-use Rattle.entries.specs.declared.choice.Choice.{Choice}
-use Rattle.entries.specs.declared.row.Phase.TheVariants.{Issued}
-use Rattle.entries.specs.declared.row.Row.{Row}
-use Rattle.links_drains.specs.Holding.{is_held_by}
-use Rattle.links_drains.specs.Phases.{is_ended}
-use Rattle.opcodes.specs.Opcodes.{is_cancel, is_timer}
-use Rattle.opcodes.specs.Outcomes.{outcome_of}
-use Rattle.opcodes.specs.declared.ending.Outcome.{Outcome}
-use Rattle.opcodes.specs.declared.ending.Outcome.TheVariants.{Res}
-use Rattle.machine.specs.Plans.{CanDo, IsOpen, planned}
-use Rattle.machine.specs.Steps.{after, cancelled, choice_refusal, finished, finished_as, full_refusal, outcome_refusal, refusal}
-use Rattle.machine.specs.declared.planning.Plan.TheVariants.{Complete}
-use Rattle.machine.specs.declared.whole.Machine.{Machine}
-use Rattle.scenario.specs.declared.event.Event.TheVariants.{Finish}
+use Rattle.machine.proofs.Common.{◌≡◌, ◌∙◌, ℕ, ℤ, false, sym, ap, cond, arith, Some, slice_get, option_map_or, Choice, Issued, Row, is_held_by, is_ended, is_cancel, is_timer, outcome_of, Outcome, Res, CanDo, IsOpen, planned, after, cancelled, choice_refusal, finished, finished_as, full_refusal, outcome_refusal, refusal, Complete, Machine, Finish}
 
 -- The refusal of a Finish of an issued request that is no timer.
 pub finish_of_issued : (m : Machine) (r : ℕ) (c : Choice) (row : Row) → slice_get m.table r ≡ Some row → is_timer row.entry.opcode ≡ false → row.phase ≡ Issued → refusal m (Finish r c) ≡ choice_refusal (is_held_by m.table) m.world row c

@@ -1,29 +1,10 @@
 -- Undoing a list of changes.
-use Rattle.std.proofs.Common.{◌≡◌, ℕ, Bool, true, refl, sym, ◌∙◌, ap, subst, List, ◌∷◌, length, map, arith}
-use Rattle.std.specs.Prelude.{Option, Some, None, is_some, option_map, slice_get}
-use Rattle.std.proofs.lemmas.Option.{slice_get-map}
-use Rattle.std.proofs.lemmas.List.{length-map}
-use Rattle.places.specs.declared.place.Place.{Place}
-use Rattle.places.specs.declared.place.Place.TheVariants.{SubmissionHead, SubmissionTail, SubmissionFlags, SubmissionDropped, CompletionHead, CompletionTail, Array, Slot, Completion, MemoryByte, FileByte, DurableByte, FileLength, DurableLength, Position, OpenMark, PipeByte, PutCount, TakenCount, EventCount, Request, Backlog, BacklogFront, Clock, Counted, PollerStage, ProgramCounter, ThreadStage, Last, Got}
-use Rattle.places.specs.declared.value.Value.{Value}
-use Rattle.places.specs.declared.value.Value.TheVariants.{Number, Signed, Requested, Staged, Reaped, Awake as AwakeValue}
-use Rattle.places.specs.declared.value.Change.{Change}
+use Rattle.machine.proofs.Common.{◌≡◌, ℕ, Bool, true, sym, ◌∙◌, ap, subst, List, ◌∷◌, length, map, arith, Option, Some, None, is_some, option_map, slice_get, slice_get-map, length-map, Place, Request, Clock, Counted, PollerStage, ProgramCounter, ThreadStage, Last, Got, Value, Number, Signed, Requested, Staged, Reaped, Awake as AwakeValue, Change, same_place_is, same_list, fixed_of, counted-le-length, ended-le-length, was_fixed, as_many, sub_seen, com_seen, world_seen, BacklogFormed, backlog_seen, Poller, ThreadState, program_of, Machine}
 use Rattle.places.specs.View.{View, named, undo, put_at, LeadsBack, Exact}
-use Rattle.places.proofs.SamePlace.{same_place_is}
-use Rattle.places.proofs.ListLemmas.{same_list}
-use Rattle.links_drains.specs.Rows.{fixed_of}
-use Rattle.links_drains.proofs.Counting.{counted-le-length, ended-le-length}
-use Rattle.links_drains.proofs.Remaining.{was_fixed, as_many}
-use Rattle.ring_words.specs.Rings.{sub_seen, com_seen}
 use Rattle.ring_words.proofs.Restoring.{none_here, some_here, same_through, sub_seen_can_put, com_seen_can_put, sub_absent_same, com_absent_same, same_sub, same_com}
-use Rattle.model_files.specs.Worlds.{world_seen}
 use Rattle.model_files.proofs.Restoring.{world_seen_can_put, world_absent_same, same_world}
-use Rattle.overflow.specs.Backlogs.{BacklogFormed, backlog_seen}
 use Rattle.overflow.proofs.Restoring.{backlog_seen_can_put, backlog_absent_same, same_backlog}
-use Rattle.sqpoll.specs.declared.poller.Poller.{Poller}
-use Rattle.machine.specs.Threads.{ThreadState, program_of}
 use Rattle.machine.specs.Whole.{view, can_put, stage_of, OneSetup, WellFormed}
-use Rattle.machine.specs.declared.whole.Machine.{Machine}
 
 -- An exact record leads back.
 pub back_from_exact : (u v : View) (cs : List Change) → Exact u v cs → LeadsBack u v cs
@@ -55,29 +36,7 @@ kept_front s f = record { front = let k = ended-le-length s.table in omega (arit
 
 -- The values of one machine may be written into any machine with the same setup.
 pub seen_can_put : (s m : Machine) → WellFormed s → OneSetup s m → map fixed_of s.table ≡ map fixed_of m.table → length s.backlog.items ≡ length m.backlog.items → (p : Place) (v : Value) → view s p ≡ Some v → can_put m p (Some v)
-seen_can_put s m f h r b SubmissionHead v e = sub_seen_can_put s.submissions m.submissions f.mostly.rings.submissions h.array h.slots SubmissionHead v e
-seen_can_put s m f h r b SubmissionTail v e = sub_seen_can_put s.submissions m.submissions f.mostly.rings.submissions h.array h.slots SubmissionTail v e
-seen_can_put s m f h r b SubmissionFlags v e = sub_seen_can_put s.submissions m.submissions f.mostly.rings.submissions h.array h.slots SubmissionFlags v e
-seen_can_put s m f h r b SubmissionDropped v e = sub_seen_can_put s.submissions m.submissions f.mostly.rings.submissions h.array h.slots SubmissionDropped v e
-seen_can_put s m f h r b (Array i) v e = sub_seen_can_put s.submissions m.submissions f.mostly.rings.submissions h.array h.slots (Array i) v e
-seen_can_put s m f h r b (Slot i) v e = sub_seen_can_put s.submissions m.submissions f.mostly.rings.submissions h.array h.slots (Slot i) v e
-seen_can_put s m f h r b CompletionHead v e = com_seen_can_put s.completions m.completions f.mostly.rings.completions h.completions CompletionHead v e
-seen_can_put s m f h r b CompletionTail v e = com_seen_can_put s.completions m.completions f.mostly.rings.completions h.completions CompletionTail v e
-seen_can_put s m f h r b (Completion i) v e = com_seen_can_put s.completions m.completions f.mostly.rings.completions h.completions (Completion i) v e
-seen_can_put s m f h r b (MemoryByte a) v e = world_seen_can_put s.world m.world f.mostly.world h.world (MemoryByte a) v e
-seen_can_put s m f h r b (FileByte o i) v e = world_seen_can_put s.world m.world f.mostly.world h.world (FileByte o i) v e
-seen_can_put s m f h r b (DurableByte o i) v e = world_seen_can_put s.world m.world f.mostly.world h.world (DurableByte o i) v e
-seen_can_put s m f h r b (FileLength o) v e = world_seen_can_put s.world m.world f.mostly.world h.world (FileLength o) v e
-seen_can_put s m f h r b (DurableLength o) v e = world_seen_can_put s.world m.world f.mostly.world h.world (DurableLength o) v e
-seen_can_put s m f h r b (Position fd) v e = world_seen_can_put s.world m.world f.mostly.world h.world (Position fd) v e
-seen_can_put s m f h r b (OpenMark fd) v e = world_seen_can_put s.world m.world f.mostly.world h.world (OpenMark fd) v e
-seen_can_put s m f h r b (PipeByte o i) v e = world_seen_can_put s.world m.world f.mostly.world h.world (PipeByte o i) v e
-seen_can_put s m f h r b (PutCount o) v e = world_seen_can_put s.world m.world f.mostly.world h.world (PutCount o) v e
-seen_can_put s m f h r b (TakenCount o) v e = world_seen_can_put s.world m.world f.mostly.world h.world (TakenCount o) v e
-seen_can_put s m f h r b (EventCount o) v e = world_seen_can_put s.world m.world f.mostly.world h.world (EventCount o) v e
 seen_can_put s m f h r b (Request i) v e = let k = some_here Requested s.table m.table i v (as_many s.table m.table r) e in subst (λ (w : Value). can_put m (Request i) (Some w)) (sym k.1.2) (was_fixed s.table m.table i k.1.0 r k.1.1)
-seen_can_put s m f h r b (Backlog i) v e = backlog_seen_can_put s.backlog m.backlog (kept_front s f) b (Backlog i) v e
-seen_can_put s m f h r b BacklogFront v e = backlog_seen_can_put s.backlog m.backlog (kept_front s f) b BacklogFront v e
 seen_can_put s m f h r b PollerStage v e = let k = poller_put s.poller m.poller v h.poller e in subst (λ (w : Value). can_put m PollerStage (Some w)) (sym k.1.1) k.0
 seen_can_put s m f h r b Clock v e = subst (can_put m Clock) e tt
 seen_can_put s m f h r b Counted v e = subst (can_put m Counted) e (let k = counted-le-length s.table in omega (arith, f.mostly.table.counted, f.mostly.table.few, k))
@@ -85,39 +44,23 @@ seen_can_put s m f h r b (ProgramCounter t) v e = let k = some_here (λ (x : Thr
 seen_can_put s m f h r b (ThreadStage t) v e = let k = some_here (λ (x : ThreadState). Staged x.stage) s.threads m.threads t v (same_count s m h) e in subst (λ (w : Value). can_put m (ThreadStage t) (Some w)) (sym k.1.2) k.0
 seen_can_put s m f h r b (Last t) v e = let k = some_here (λ (x : ThreadState). Signed x.last) s.threads m.threads t v (same_count s m h) e in subst (λ (w : Value). can_put m (Last t) (Some w)) (sym k.1.2) (k.0, (f.mostly.threads t k.1.0 k.1.1).last)
 seen_can_put s m f h r b (Got t) v e = let k = some_here (λ (x : ThreadState). Reaped x.got) s.threads m.threads t v (same_count s m h) e in subst (λ (w : Value). can_put m (Got t) (Some w)) (sym k.1.2) k.0
+seen_can_put s m f h r b p v e =
+    let subs = sub_seen_can_put s.submissions m.submissions f.mostly.rings.submissions h.array h.slots p v in
+    let coms = com_seen_can_put s.completions m.completions f.mostly.rings.completions h.completions p v in
+    let world = world_seen_can_put s.world m.world f.mostly.world h.world p v in
+    let kept = backlog_seen_can_put s.backlog m.backlog (kept_front s f) b p v in
+    grind arith
 
 -- A place that is absent in one machine is absent in any with the same setup and as many requests.
 pub absent_same : (s m : Machine) → OneSetup s m → map fixed_of s.table ≡ map fixed_of m.table → length s.backlog.items ≡ length m.backlog.items → (p : Place) → view s p ≡ None → view m p ≡ None
-absent_same s m h r b SubmissionHead e = sub_absent_same s.submissions m.submissions h.array h.slots SubmissionHead e
-absent_same s m h r b SubmissionTail e = sub_absent_same s.submissions m.submissions h.array h.slots SubmissionTail e
-absent_same s m h r b SubmissionFlags e = sub_absent_same s.submissions m.submissions h.array h.slots SubmissionFlags e
-absent_same s m h r b SubmissionDropped e = sub_absent_same s.submissions m.submissions h.array h.slots SubmissionDropped e
-absent_same s m h r b (Array i) e = sub_absent_same s.submissions m.submissions h.array h.slots (Array i) e
-absent_same s m h r b (Slot i) e = sub_absent_same s.submissions m.submissions h.array h.slots (Slot i) e
-absent_same s m h r b CompletionHead e = com_absent_same s.completions m.completions h.completions CompletionHead e
-absent_same s m h r b CompletionTail e = com_absent_same s.completions m.completions h.completions CompletionTail e
-absent_same s m h r b (Completion i) e = com_absent_same s.completions m.completions h.completions (Completion i) e
-absent_same s m h r b (MemoryByte a) e = world_absent_same s.world m.world h.world (MemoryByte a) e
-absent_same s m h r b (FileByte o i) e = world_absent_same s.world m.world h.world (FileByte o i) e
-absent_same s m h r b (DurableByte o i) e = world_absent_same s.world m.world h.world (DurableByte o i) e
-absent_same s m h r b (FileLength o) e = world_absent_same s.world m.world h.world (FileLength o) e
-absent_same s m h r b (DurableLength o) e = world_absent_same s.world m.world h.world (DurableLength o) e
-absent_same s m h r b (Position fd) e = world_absent_same s.world m.world h.world (Position fd) e
-absent_same s m h r b (OpenMark fd) e = world_absent_same s.world m.world h.world (OpenMark fd) e
-absent_same s m h r b (PipeByte o i) e = world_absent_same s.world m.world h.world (PipeByte o i) e
-absent_same s m h r b (PutCount o) e = world_absent_same s.world m.world h.world (PutCount o) e
-absent_same s m h r b (TakenCount o) e = world_absent_same s.world m.world h.world (TakenCount o) e
-absent_same s m h r b (EventCount o) e = world_absent_same s.world m.world h.world (EventCount o) e
-absent_same s m h r b (Request i) e = none_here Requested s.table m.table i (as_many s.table m.table r) e
-absent_same s m h r b (Backlog i) e = backlog_absent_same s.backlog m.backlog b (Backlog i) e
-absent_same s m h r b BacklogFront e = backlog_absent_same s.backlog m.backlog b BacklogFront e
-absent_same s m h r b PollerStage e = poller_absent s.poller m.poller h.poller e
-absent_same s m h r b Clock e = absurd cc
-absent_same s m h r b Counted e = absurd cc
-absent_same s m h r b (ProgramCounter t) e = none_here (λ (x : ThreadState). Number x.counter) s.threads m.threads t (same_count s m h) e
-absent_same s m h r b (ThreadStage t) e = none_here (λ (x : ThreadState). Staged x.stage) s.threads m.threads t (same_count s m h) e
-absent_same s m h r b (Last t) e = none_here (λ (x : ThreadState). Signed x.last) s.threads m.threads t (same_count s m h) e
-absent_same s m h r b (Got t) e = none_here (λ (x : ThreadState). Reaped x.got) s.threads m.threads t (same_count s m h) e
+absent_same s m h r b p e =
+    let subs = sub_absent_same s.submissions m.submissions h.array h.slots p in
+    let coms = com_absent_same s.completions m.completions h.completions p in
+    let world = world_absent_same s.world m.world h.world p in
+    let kept = backlog_absent_same s.backlog m.backlog b p in
+    let rows = as_many s.table m.table r in
+    let threads = same_count s m h in
+    grind (arith, none_here, poller_absent)
 
 -- ---- Machines with the same setup and the same values are equal
 
@@ -132,39 +75,19 @@ pub same_machine : (m n : Machine) → OneSetup m n → ((p : Place) → view m 
 same_machine m n h e = λ i. record { submissions = subs i; completions = coms i; backlog = kept i; world = world i; table = rows i; poller = polled i; submit_all = h.submit_all i; threads = threads i; clock = clock i; counted = counted i }
   where
     at_sub : (p : Place) → sub_seen m.submissions p ≡ sub_seen n.submissions p
-    at_sub SubmissionHead = e SubmissionHead
-    at_sub SubmissionTail = e SubmissionTail
-    at_sub SubmissionFlags = e SubmissionFlags
-    at_sub SubmissionDropped = e SubmissionDropped
-    at_sub (Array i) = e (Array i)
-    at_sub (Slot i) = e (Slot i)
-    at_sub _ = refl
+    at_sub p = let k = e p in grind arith
 
     subs : m.submissions ≡ n.submissions
     subs = same_sub m.submissions n.submissions at_sub
 
     at_com : (p : Place) → com_seen m.completions p ≡ com_seen n.completions p
-    at_com CompletionHead = e CompletionHead
-    at_com CompletionTail = e CompletionTail
-    at_com (Completion i) = e (Completion i)
-    at_com _ = refl
+    at_com p = let k = e p in grind arith
 
     coms : m.completions ≡ n.completions
     coms = same_com m.completions n.completions at_com
 
     at_world : (p : Place) → world_seen m.world p ≡ world_seen n.world p
-    at_world (MemoryByte a) = e (MemoryByte a)
-    at_world (FileByte o i) = e (FileByte o i)
-    at_world (DurableByte o i) = e (DurableByte o i)
-    at_world (FileLength o) = e (FileLength o)
-    at_world (DurableLength o) = e (DurableLength o)
-    at_world (Position fd) = e (Position fd)
-    at_world (OpenMark fd) = e (OpenMark fd)
-    at_world (PipeByte o i) = e (PipeByte o i)
-    at_world (PutCount o) = e (PutCount o)
-    at_world (TakenCount o) = e (TakenCount o)
-    at_world (EventCount o) = e (EventCount o)
-    at_world _ = refl
+    at_world p = let k = e p in grind arith
 
     world : m.world ≡ n.world
     world = same_world m.world n.world h.world at_world
@@ -173,9 +96,7 @@ same_machine m n h e = λ i. record { submissions = subs i; completions = coms i
     rows = same_list _ _ (λ i. same_through Requested (λ x y k. cc) _ _ (e (Request i)))
 
     at_backlog : (p : Place) → backlog_seen m.backlog p ≡ backlog_seen n.backlog p
-    at_backlog (Backlog i) = e (Backlog i)
-    at_backlog BacklogFront = e BacklogFront
-    at_backlog _ = refl
+    at_backlog p = let k = e p in grind arith
 
     kept : m.backlog ≡ n.backlog
     kept = same_backlog m.backlog n.backlog at_backlog

@@ -1,29 +1,7 @@
 -- The reported refusal is the one with the smallest number among the causes of an event.
-use Rattle.std.proofs.Common.{◌≡◌, ℕ, Bool, true, false, cond, refl, sym, ◌∙◌, ap, subst, List, [], ◌∷◌, length, ◌+◌, ◌-◌, ◌<◌, ◌⊎◌, inl, inr, arith}
-use Rattle.std.specs.Prelude.{Option, Some, None, is_none, not, ◌==◌, ◌&&◌, slice_get, nat_le, unwrap_or}
-use Rattle.std.specs.List.{find}
-use Rattle.std.specs.Option.{option_map_or, option_and_then}
-use Rattle.std.proofs.lemmas.Bool.{cases_order, le-leb, lt-leb}
-use Rattle.std.proofs.lemmas.Option.{slice_get_cases, slice_get_within}
-use Rattle.entries.specs.declared.row.Row.{Row}
-use Rattle.entries.specs.declared.choice.Choice.{Choice}
-use Rattle.entries.specs.declared.choice.Choice.TheVariants.{Full, Short, Eio}
-use Rattle.opcodes.specs.declared.ending.Outcome.{Outcome}
-use Rattle.opcodes.specs.declared.ending.Outcome.TheVariants.{Res, Waits, BadChoice as IsBadChoice}
-use Rattle.opcodes.specs.Opcodes.{is_cancel}
-use Rattle.opcodes.specs.Outcomes.{outcome_of}
-use Rattle.places.specs.declared.value.Stage.{Stage}
-use Rattle.places.specs.declared.value.Stage.TheVariants.{Ready, Waiting}
+use Rattle.machine.proofs.Common.{◌≡◌, ℕ, Bool, true, false, cond, refl, sym, ◌∙◌, ap, subst, List, [], ◌∷◌, length, ◌+◌, ◌-◌, ◌<◌, ◌⊎◌, inl, inr, arith, Option, Some, None, is_none, not, ◌==◌, ◌&&◌, slice_get, nat_le, unwrap_or, find, option_map_or, option_and_then, cases_order, le-leb, lt-leb, slice_get_cases, slice_get_within, Row, Choice, Outcome, is_cancel, outcome_of, Stage, Ready, Waiting, is_held_by, ThreadState, choice_refusal, flushed, full_refusal, instruction_refusal, next_refusal, outcome_refusal, ready_count, refusal, submission_refusal, thread_refusal, Machine, Instruction, Put, Push, Store, Enter, Reap, Close, Event, Step, Take, Sleep, Issue, Finish, Expire, Tick}
 use Rattle.ring_words.specs.Rings.{sub_list, waiting}
-use Rattle.links_drains.specs.Holding.{is_held_by}
-use Rattle.machine.specs.Threads.{ThreadState}
-use Rattle.machine.specs.Steps.{choice_refusal, flushed, full_refusal, instruction_refusal, next_refusal, outcome_refusal, ready_count, refusal, submission_refusal, thread_refusal}
 use Rattle.machine.specs.Refusals.{cannot_end, executes, has_cause, is_at_end, is_bad_choice, is_in_full, is_push, is_reap, is_unready, is_waits, number_of, submits_too_many, waits_still}
-use Rattle.machine.specs.declared.whole.Machine.{Machine}
-use Rattle.scenario.specs.declared.setup.Instruction.{Instruction}
-use Rattle.scenario.specs.declared.setup.Instruction.TheVariants.{Put, Push, Store, Enter, Reap, Close}
-use Rattle.scenario.specs.declared.event.Event.{Event}
-use Rattle.scenario.specs.declared.event.Event.TheVariants.{Step, Take, Sleep, Issue, Finish, Expire, Tick}
 use Rattle.scenario.specs.declared.event.Refusal.{Refusal}
 use Rattle.scenario.specs.declared.event.Refusal.TheVariants.{NoSuchThread, ThreadDone, SqFull, NothingToReap, StillWaiting, NoSuchRequest, WrongPhase, NotEligible, NotReady, NotDue, BadChoice, NoPoller, Asleep, NotIdle, ClockFull, RequestsFull, Memory}
 
@@ -85,8 +63,7 @@ first_is_least test i (x ∷ xs) e below = by (λ b. first_is_least test (i + 1)
     further h k l = elim (lt_or_same (number_of k) i l) [ inl under ↦ below k under | inr same ↦ ap test (same_number k x (same ∙ sym e.0)) ∙ h ]
 
     by : (((k : Refusal) → number_of k < i + 1 → test k ≡ false) → IsLeastCause test (find test xs)) → (b : Bool) → test x ≡ b → IsLeastCause test (cond b (Some x) (find test xs))
-    by next true h = (h, λ k l. below k (subst (λ n. number_of k < n) e.0 l))
-    by next false h = next (further h)
+    by = grind (arith, further)
 
 -- ---- Events
 
@@ -107,12 +84,7 @@ choice_first : (m : Machine) (c : Choice) (row : Row) → choice_refusal (is_hel
 choice_first m c row = by (is_cancel row.entry.opcode) c (outcome_of (is_held_by m.table) m.world row c)
   where
     by : (b : Bool) (c : Choice) (o : Outcome) → cond b (full_refusal c) (outcome_refusal o) ≡ cond (not b && is_waits o) (Some NotReady) (cond (cond b (not (is_in_full c)) (is_bad_choice o)) (Some BadChoice) None)
-    by true Full o = refl
-    by true (Short n) o = refl
-    by true Eio o = refl
-    by false c (Res res) = refl
-    by false c Waits = refl
-    by false c IsBadChoice = refl
+    by = grind arith
 
 finish_first : (m : Machine) (r : ℕ) (c : Choice) → First m (Finish r c)
 finish_first = grind (arith, choice_first)
@@ -151,8 +123,7 @@ step_first m t = by (slice_get m.threads t)
     at (Waiting n w) (Some i) = refl
 
     by : (o : Option ThreadState) → thread_refusal m o ≡ cond (is_none o) (Some NoSuchThread) (cond (option_map_or is_at_end o false) (Some ThreadDone) (cond (option_map_or is_push (option_and_then (λ x. executes x.stage (slice_get x.program x.counter)) o) false && (waiting m.submissions.head m.submissions.tail == length m.submissions.array)) (Some SqFull) (cond (option_map_or is_reap (option_and_then (λ x. executes x.stage (slice_get x.program x.counter)) o) false && (ready_count m == 0)) (Some NothingToReap) (cond (option_map_or (λ x. waits_still m x.stage) o false) (Some StillWaiting) (cond (option_map_or (submits_too_many m) (option_and_then (λ x. executes x.stage (slice_get x.program x.counter)) o) false) (Some RequestsFull) None)))))
-    by None = refl
-    by (Some x) = rw (ends x.program x.counter) (at x.stage (slice_get x.program x.counter))
+    by = grind (arith, ends, at)
 
 first_is_refusal : (m : Machine) (e : Event) → refusal m e ≡ find (has_cause m e) refusals
 first_is_refusal = grind (arith, step_first, take_first, sleep_first, issue_first, finish_first, expire_first, tick_first)

@@ -1,25 +1,16 @@
 -- Restoring the old values of a record, one change after the other.
-use Rattle.std.proofs.Common.{◌≡◌, ℕ, ◌+◌, Bool, true, false, cond, refl, sym, ◌∙◌, ap, subst, List, [], ◌∷◌, ◌++◌, length, map}
-use Rattle.std.specs.Prelude.{Option, Some, None, IsSome, is_some, unwrap_or}
-use Rattle.places.specs.declared.place.Place.{Place}
-use Rattle.places.specs.declared.value.Value.{Value}
-use Rattle.places.specs.declared.value.Value.TheVariants.{Byte}
-use Rattle.places.specs.declared.value.Change.{Change}
+use Rattle.machine.proofs.Common.{◌≡◌, ℕ, ◌+◌, Bool, true, false, cond, refl, sym, ◌∙◌, ap, subst, List, [], ◌∷◌, ◌++◌, length, map, Option, Some, None, IsSome, is_some, unwrap_or, Place, Value, Byte, Change, same_place_is, same_place_self, WorldState, world_owns, world_seen, OneSetup as OneWorldSetup, fixed_of, Machine}
 use Rattle.places.specs.Places.{same_place}
 use Rattle.places.specs.declared.notes.runs.Region.{Region}
 use Rattle.places.specs.declared.notes.runs.Region.TheVariants.{Memory, File, Durable, Pipe}
 use Rattle.places.specs.View.{named, undo, put_at, Keeps, NamesOnce}
 use Rattle.places.specs.Runs.{place_in, old_bytes}
 use Rattle.places.specs.Masked.{BytesPresent}
-use Rattle.places.proofs.SamePlace.{same_place_is, same_place_self}
 use Rattle.places.proofs.Undoing.{once_back, named_front, named_back, undo-append}
 use Rattle.places.proofs.KeptAt.{named_here}
-use Rattle.model_files.specs.Worlds.{WorldState, world_owns, world_seen, OneSetup as OneWorldSetup}
 use Rattle.model_files.proofs.PuttingBack.{named_in_world}
 use Rattle.model_files.proofs.Fixing as worlds
-use Rattle.links_drains.specs.Rows.{fixed_of}
 use Rattle.machine.specs.Whole.{view, can_put, everywhere, OneSetup, Overwrites, Overwritten}
-use Rattle.machine.specs.declared.whole.Machine.{Machine}
 use Rattle.machine.proofs.Lifting.{lift_world}
 use Rattle.machine.proofs.Staying.{Remains}
 use Rattle.machine.proofs.PuttingBack.{undo-cons, seen_can_put, absent_same, same_machine}

@@ -1,36 +1,13 @@
 -- The initial machine of a setup is well formed.
-use Rattle.std.proofs.Common.{◌≡◌, ℕ, Bool, true, false, refl, sym, ◌∙◌, ap, subst, List, [], ◌∷◌, length, map, ◌+◌, ◌<◌, ◌≤◌, ◌^◌, arith}
-use Rattle.std.specs.Prelude.{Option, Some, None, slice_get, ◌&&◌}
-use Rattle.std.specs.List.{list_all}
+use Rattle.machine.proofs.Common.{◌≡◌, ℕ, Bool, true, false, refl, sym, ◌∙◌, ap, subst, List, [], ◌∷◌, length, map, ◌+◌, ◌<◌, ◌≤◌, ◌^◌, arith, Option, Some, None, slice_get, ◌&&◌, list_all, slice_get_within, slice_get-map, length-replicate, take_more, map-append, get_or_from_slice_get, take, ◌++◌, option_map, zero, suc, rules, Row, rounded, zero_entry, waiting_none, formed_sub_start, formed_com_start, HasWidths, HaveWidths, IsDone, IsProgram, chained-none, ThreadState, thread_start, option_and_then, ContentsFit, PutsWithin, body_start, pipe_in, world_start, Ready, Waiting, is_asleep, flag_word, WellFormed, ThreadWellFormed, first_poller, start, completion_entries, Instruction}
 use Rattle.std.proofs.Math.Dec.{leb}
 use Rattle.std.proofs.lemmas.Bool.Decides.{nat_tests}
-use Rattle.std.proofs.lemmas.Option.{slice_get_within, slice_get-map}
-use Rattle.std.proofs.lemmas.List.{length-replicate, take_more, map-append}
-use Rattle.std.proofs.lemmas.Option.{get_or_from_slice_get}
-use Rattle.std.proofs.Common.{take, ◌++◌}
-use Rattle.std.specs.Prelude.{option_map}
-use Rattle.std.proofs.Common.{zero, suc, rules}
-use Rattle.entries.specs.declared.row.Row.{Row}
-use Rattle.ring_words.specs.Rings.{rounded, zero_entry}
-use Rattle.ring_words.proofs.Order.{waiting_none}
 use Rattle.ring_words.proofs.Sizes.{rounded_size, size_some}
-use Rattle.ring_words.proofs.Laws.{formed_sub_start, formed_com_start}
-use Rattle.scenario.specs.Programs.{HasWidths, HaveWidths, IsDone, IsProgram}
-use Rattle.links_drains.proofs.Chains.{chained-none}
-use Rattle.machine.specs.Threads.{ThreadState, thread_start}
 use Rattle.scenario.specs.Setups.{setup_refusal, has_ring_sizes, is_between, is_completion_size, has_programs, is_program, is_instruction, has_memory, has_objects, has_descriptors}
 use Rattle.places.specs.declared.object.Contents.{Contents}
-use Rattle.places.specs.declared.object.Contents.TheVariants.{File, Pipe, EventFd}
 use Rattle.places.specs.declared.object.Object.{Object}
-use Rattle.std.specs.Option.{option_and_then}
 use Rattle.places.specs.declared.object.Descriptor.{Descriptor}
-use Rattle.model_files.specs.Pipes.{PipeState, pipe_start}
-use Rattle.model_files.specs.Worlds.{ContentsFit, PutsWithin, body_start, pipe_in, world_start}
 use Rattle.model_files.proofs.Forming.{world_start_formed}
-use Rattle.places.specs.declared.value.Stage.TheVariants.{Ready, Waiting}
-use Rattle.machine.specs.Whole.{is_asleep, flag_word, WellFormed, ThreadWellFormed}
-use Rattle.machine.specs.Runs.{first_poller, start, completion_entries}
-use Rattle.scenario.specs.declared.setup.Instruction.{Instruction}
 use Rattle.scenario.specs.declared.setup.Setup.{Setup}
 
 both_true : (a b : Bool) → (a && b) ≡ true → (a ≡ true) × (b ≡ true)
@@ -86,9 +63,7 @@ puts_start : (memory : List ℕ) (os : List Object) (ds : List Descriptor) → P
 puts_start memory os ds o p h = by os o h
   where
     one : (c : Contents) → pipe_in (body_start c) ≡ Some p → p.put ≤ 0
-    one (File bytes) e = absurd cc
-    one (Pipe capacity) e = let same : pipe_start capacity ≡ p = cc in subst (λ (q : PipeState). q.put ≤ 0) same (omega arith)
-    one (EventFd counter) e = absurd cc
+    one = grind arith
 
     by : (xs : List Object) (i : ℕ) → option_and_then pipe_in (slice_get (map (λ (x : Object). body_start x.contents) xs) i) ≡ Some p → p.put ≤ 0
     by [] i e = absurd cc

@@ -1,18 +1,9 @@
 -- How many requests and overflowed completions remain when a step is undone.
-use Rattle.std.proofs.Common.{◌≡◌, ℕ, sym, subst, ◌∙◌, List, length, take, map}
-use Rattle.std.proofs.lemmas.List.{length-take-le}
+use Rattle.machine.proofs.Common.{◌≡◌, ℕ, sym, subst, ◌∙◌, List, length, take, map, length-take-le, Place, Request, Backlog, Completed, Requested, Change, undo, LeadsBack, fixed_of, stay_cut, Machine}
 use Rattle.places.specs.declared.listed.Listed.TheVariants.{Requests, Overflowed}
-use Rattle.places.specs.declared.place.Place.{Place}
-use Rattle.places.specs.declared.place.Place.TheVariants.{Request, Backlog}
-use Rattle.places.specs.declared.value.Value.TheVariants.{Completed, Requested}
-use Rattle.places.specs.declared.value.Change.{Change}
-use Rattle.places.specs.View.{undo, LeadsBack}
 use Rattle.places.specs.Notes.{IsLeft}
 use Rattle.places.proofs.Restored.{left_all, left_back}
-use Rattle.links_drains.specs.Rows.{fixed_of}
-use Rattle.links_drains.proofs.Remaining.{stay_cut}
 use Rattle.machine.specs.Whole.{view, GoesBack, OneSetup, WellFormed}
-use Rattle.machine.specs.declared.whole.Machine.{Machine}
 
 -- The machine with fewer requests and fewer items of the backlog.
 abbrev pub cut : ℕ → ℕ → Machine → Machine

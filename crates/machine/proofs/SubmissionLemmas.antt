@@ -1,13 +1,6 @@
 -- Lemmas about what a submission consumes.
-use Rattle.std.proofs.Common.{◌≡◌, ℕ, ◌∙◌, ap, List, ◌++◌, length, take, ◌+◌, ◌-◌, ◌%◌, ◌≤◌, ◌^◌, arith}
-use Rattle.std.specs.Prelude.{None, min}
-use Rattle.std.proofs.lemmas.List.{length-take-le}
-use Rattle.entries.specs.declared.row.Row.{Row}
+use Rattle.machine.proofs.Common.{◌≡◌, ℕ, ◌∙◌, ap, List, ◌++◌, length, take, ◌+◌, ◌-◌, ◌%◌, ◌≤◌, ◌^◌, arith, None, min, length-take-le, Row, rows_of, offered, entries_for, submission_refusal, taken, words_for, Machine}
 use Rattle.ring_words.specs.Rings.{SubWords, sub_list}
-use Rattle.links_drains.specs.Batches.{rows_of}
-use Rattle.machine.specs.Submission.{offered}
-use Rattle.machine.specs.Steps.{entries_for, submission_refusal, taken, words_for}
-use Rattle.machine.specs.declared.whole.Machine.{Machine}
 use Rattle.machine.proofs.TakingWords.{take_least}
 
 -- ---- Refusals

@@ -1,12 +1,6 @@
 -- Reading the words of the submission ring, and the entries that they refer to.
-use Rattle.std.proofs.Common.{◌≡◌, ℕ, zero, suc, Bool, true, false, cond, refl, sym, ◌∙◌, ap, List, [], ◌∷◌, ◌++◌, length, take, drop, ◌+◌, ◌-◌, ◌<◌, ◌≤◌, arith}
-use Rattle.std.specs.Prelude.{Some, None, is_some, slice_get, min}
-use Rattle.std.proofs.lemmas.Grind.{common_steps}
-use Rattle.std.proofs.lemmas.List.{append-nil, take_more}
+use Rattle.machine.proofs.Common.{◌≡◌, ℕ, zero, suc, Bool, cond, refl, sym, ◌∙◌, ap, List, [], ◌∷◌, ◌++◌, length, take, drop, ◌+◌, ◌-◌, ◌<◌, ◌≤◌, arith, Some, None, is_some, slice_get, min, common_steps, append-nil, take_more, slice_get_within, get_or_from_slice_get, Sqe, entries_at, up_to_entry}
 use Rattle.std.proofs.lemmas.List.Elements.{filter_map-append}
-use Rattle.std.proofs.lemmas.Option.{slice_get_within, get_or_from_slice_get}
-use Rattle.entries.specs.declared.entry.Sqe.{Sqe}
-use Rattle.machine.specs.Submission.{entries_at, up_to_entry}
 
 -- To take more items than there are takes all of them.
 pub take_least : {X : Type 0} (k : ℕ) (xs : List X) → take (min k (length xs)) xs ≡ take k xs
@@ -73,13 +67,10 @@ reading_on slots words n count left x b r l h k = record {
     rest = entries_at slots (drop (count + 1) words)
 
     pushed : (xs : List ℕ) (y : ℕ) (ys : List ℕ) → xs ++ y ∷ ys ≡ (xs ++ y ∷ []) ++ ys
-    pushed [] y ys = refl
-    pushed (z ∷ xs) y ys = ap (λ zs. z ∷ zs) (pushed xs y ys)
+    pushed = grind (arith, common_steps)
 
     by : (c : Bool) → left ≤ cond c (suc (length rest)) (length rest) → cond c (left - 1) left ≤ length rest
-    by true m = omega (arith, m)
-    by false m = m
+    by = grind arith
 
     most : (c : Bool) → n ≤ count + 1 + cond c (left - 1) left
-    most true = let m = r.enough in omega (arith, m, l)
-    most false = let m = r.enough in omega (arith, m)
+    most = grind arith

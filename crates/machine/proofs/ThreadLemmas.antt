@@ -1,17 +1,6 @@
 -- The places of changed threads.
-use Rattle.std.proofs.Common.{◌≡◌, ℕ, zero, suc, ℤ, Bool, true, cond, refl, sym, ◌∙◌, ap, List, [], ◌∷◌, arith}
-use Rattle.std.specs.Prelude.{Option, Some, slice_get, slice_set, ◌&&◌}
-use Rattle.std.proofs.lemmas.Option.{slice_get_within}
-use Rattle.entries.specs.declared.completion.Cqe.{Cqe}
-use Rattle.places.specs.declared.value.Stage.{Stage}
-use Rattle.places.specs.declared.place.Place.{Place}
-use Rattle.places.specs.declared.place.Place.TheVariants.{ProgramCounter, ThreadStage, Last, Got}
-use Rattle.places.specs.declared.value.Value.TheVariants.{Number, Signed, Staged, Reaped}
+use Rattle.machine.proofs.Common.{◌≡◌, ℕ, zero, suc, ℤ, Bool, true, cond, refl, sym, ◌∙◌, ap, List, [], ◌∷◌, arith, Option, Some, slice_get, slice_set, ◌&&◌, slice_get_within, Cqe, Stage, Place, ProgramCounter, ThreadStage, Last, Got, Number, Signed, Staged, Reaped, put_at, updated, field_set, field_same, ThreadState, threads_seen}
 use Rattle.places.specs.Places.{same_place}
-use Rattle.places.specs.View.{put_at}
-use Rattle.places.specs.Lists.{updated}
-use Rattle.places.proofs.ListLemmas.{field_set, field_same}
-use Rattle.machine.specs.Threads.{ThreadState, threads_seen}
 
 -- Places of the same kind differ only by their index.
 one_index : {X : Type 0} (b : Bool) (x y : X) → cond b x y ≡ cond (b && true) x y

@@ -1,13 +1,5 @@
 -- Cascades are complete, because the target of an unfinished linked timeout is no linked timeout.
-use Rattle.std.proofs.Common.{◌≡◌, ℕ, false, List, ◌++◌, length, ◌+◌, ◌⊎◌, inl, inr, arith}
-use Rattle.std.specs.Prelude.{Some, slice_get}
-use Rattle.entries.specs.declared.row.Row.{Row}
-use Rattle.links_drains.specs.Batches.{rows_of}
-use Rattle.links_drains.specs.Links.{is_guard}
-use Rattle.timeouts_cancel.specs.Cascades.{GuardsFormed}
-use Rattle.machine.specs.Steps.{entries_for, taken}
-use Rattle.machine.specs.Whole.{GuardIsLinked, WellFormed}
-use Rattle.machine.specs.declared.whole.Machine.{Machine}
+use Rattle.machine.proofs.Common.{◌≡◌, ℕ, false, List, ◌++◌, length, ◌+◌, ◌⊎◌, inl, inr, arith, Some, slice_get, Row, rows_of, is_guard, GuardsFormed, entries_for, taken, GuardIsLinked, WellFormed, Machine}
 use Rattle.machine.proofs.FormedSubmissions.{old_or_new}
 use Rattle.machine.proofs.GuardLemmas.{batch_target, guard_before}
 

@@ -15,6 +15,7 @@ ghost use Rattle.scenario.specs.declared.event.Event.TheVariants.{Take};
 ghost use Rattle.scenario.specs.declared.setup.Instruction.TheVariants.{Enter};
 ghost use Rattle.scenario.specs.declared.event.Refusal.{Refusal};
 
+use crate::state::{Snapshot, State};
 use scenario::Refusal;
 
 /// Two machines with the same setup and the same values in all places are equal.
@@ -86,3 +87,16 @@ pub fn no_refusal_without_cause()
     ensures { (m : Machine) (e : Event) → refusal m e ≡ None → (n : Refusal)
         → has_cause m e n ≡ false }
 {}
+
+/// Returns its arguments. A state and its copies can be sent to another thread.
+pub fn states_can_be_sent(state: State, copy: Snapshot) -> (State, Snapshot)
+    ensures { result ≡ (state, copy) }
+{
+    (sent(state), sent(copy))
+}
+
+fn sent<T: Send>(value: T) -> T
+    ensures { result ≡ value }
+{
+    value
+}

@@ -1,10 +1,6 @@
 use Rattle.std.proofs.Common.{◌∙◌, ◌+◌, ◌-◌, ◌++◌, ◌∷◌, [], Some, sym, ap, drop, get_or, w32, FitsSigned, rules, arith}
 use Rattle.std.proofs.lemmas.Int.{to_z-of_z}
-use Rattle.std.proofs.lemmas.List.{append-nil, take_all}
-use Rattle.std.proofs.lemmas.Option.{slice_get_within}
-use Rattle.entries.specs.declared.row.Row.{Row}
-use Rattle.links_drains.specs.Batches.{direct_result}
-use Rattle.links_drains.specs.Endings.{endings_from}
+use Rattle.links_drains.proofs.Common.{append-nil, take_all, slice_get_within, Row, direct_result, endings_from}
 use Rattle.links_drains.proofs.FailingRows.{many, row_in_batch, there_in_batch, unit_low, unit_high, ends_more}
 use Rattle.links_drains.proofs.failing.direct_ends.Goals as goal
 use Rattle.links_drains.proofs.failing.direct_ends.Goals.{in-Some+in_ok-push, in_default}

@@ -1,6 +1,4 @@
-use Rattle.std.proofs.Common.{◌≡◌, ◌-◌, take, drop}
-use Rattle.links_drains.specs.Batches.{direct_result}
-use Rattle.links_drains.specs.Endings.{endings_from}
+use Rattle.links_drains.proofs.Common.{◌≡◌, ◌-◌, take, drop, direct_result, endings_from}
 use Rattle.links_drains.proofs.failing.direct_ends.Given as goal
 
 abbrev pub invariant-loop-i : goal.invariant-loop-i

@@ -1,6 +1,4 @@
-use Rattle.std.proofs.Common.{◌∙◌, ◌+◌, ◌-◌, refl, sym, ap, subst, drop, List, Bool, length, arith}
-use Rattle.std.specs.Prelude.{is_some}
-use Rattle.entries.specs.declared.row.Row.{Row}
+use Rattle.links_drains.proofs.Common.{◌∙◌, ◌+◌, ◌-◌, refl, sym, ap, subst, drop, List, Bool, length, arith, is_some, Row}
 use Rattle.links_drains.proofs.FailingRows.{FailingTo, chain_is, many, row_in_batch, there_in_batch, unit_low, unit_high, failing_none, failing_all, failing_on, failing_at}
 use Rattle.links_drains.proofs.failing.failing_chains.Goals as goal
 use Rattle.links_drains.proofs.failing.failing_chains.Goals.{then-is_some, else-is_some}

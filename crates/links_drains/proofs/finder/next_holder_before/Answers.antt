@@ -1,6 +1,4 @@
-use Rattle.std.proofs.Common.{◌∙◌, refl, sym, length, arith}
-use Rattle.std.proofs.lemmas.Option.{slice_get_read, slice_get_within}
-use Rattle.links_drains.specs.Units.{is_issued_row}
+use Rattle.links_drains.proofs.Common.{◌∙◌, refl, sym, length, arith, slice_get_read, slice_get_within, is_issued_row}
 use Rattle.links_drains.proofs.Finding.{no_holder_left, holder_found, holder_passed, no_issued}
 use Rattle.links_drains.proofs.NextRows.{next_found, none_found}
 use Rattle.links_drains.proofs.finder.next_holder_before.Goals as goal

@@ -1,5 +1,4 @@
-use Rattle.std.proofs.Common.{◌≤◌, ◌-◌}
-use Rattle.links_drains.specs.Finders.{NoHolder}
+use Rattle.links_drains.proofs.Common.{◌≤◌, ◌-◌, NoHolder}
 use Rattle.links_drains.proofs.finder.next_holder_before.Given as goal
 
 abbrev pub invariant-loop-at : goal.invariant-loop-at

@@ -1,6 +1,4 @@
-use Rattle.std.proofs.Common.{◌≡◌, ℕ, ◌+◌, take}
-use Rattle.model_files.specs.Holders.{holders}
-use Rattle.links_drains.specs.Holding.{holders_of}
+use Rattle.links_drains.proofs.Common.{◌≡◌, ℕ, ◌+◌, take, holders, holders_of}
 use Rattle.links_drains.proofs.holding.take_all_off.Given as goal
 
 abbrev pub invariant-loop-r : goal.invariant-loop-r

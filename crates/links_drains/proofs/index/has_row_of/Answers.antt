@@ -1,5 +1,4 @@
-use Rattle.std.proofs.Common.{refl, length}
-use Rattle.std.proofs.lemmas.Option.{slice_get_read}
+use Rattle.links_drains.proofs.Common.{refl, length, slice_get_read}
 use Rattle.links_drains.proofs.Units.{first_of_unit}
 use Rattle.links_drains.proofs.index.has_row_of.Goals as goal
 

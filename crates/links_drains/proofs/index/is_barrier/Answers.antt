@@ -1,7 +1,5 @@
-use Rattle.std.proofs.Common.{◌≡◌, true, false, sym, refl, ◌∙◌}
+use Rattle.links_drains.proofs.Common.{◌≡◌, true, false, sym, refl, ◌∙◌, has_drain_flag, is_open}
 use Rattle.links_drains.specs.Eligible.{drains}
-use Rattle.links_drains.specs.Links.{has_drain_flag}
-use Rattle.links_drains.specs.Units.{is_open}
 use Rattle.links_drains.proofs.Units.{any_of_has}
 use Rattle.links_drains.proofs.index.is_barrier.Goals as goal
 

@@ -1,6 +1,4 @@
-use Rattle.std.proofs.Common.{◌∙◌, ◌++◌, ◌∷◌, [], refl, sym, ap, length, arith, true, false}
-use Rattle.std.proofs.lemmas.List.{append-nil}
-use Rattle.std.proofs.lemmas.Option.{slice_get_read}
+use Rattle.links_drains.proofs.Common.{◌∙◌, ◌++◌, ◌∷◌, [], refl, sym, ap, length, arith, true, false, append-nil, slice_get_read}
 use Rattle.links_drains.proofs.RestOfUnit.{rest_start, rest_on, rest_past, rest_left, rest_none}
 use Rattle.links_drains.proofs.rest.rest_in.Goals as goal
 use Rattle.links_drains.proofs.rest.rest_in.Goals.{then-is_unfinished+in_ok-push, else-is_unfinished}

@@ -1,5 +1,4 @@
-use Rattle.std.proofs.Common.{refl, sym, ◌∙◌, ap, arith}
-use Rattle.std.specs.Prelude.{is_some}
+use Rattle.links_drains.proofs.Common.{refl, sym, ◌∙◌, ap, arith, is_some}
 use Rattle.links_drains.proofs.Batching.{element_there, errors_on, ends_with_failure, one_fails, all_pass}
 use Rattle.links_drains.proofs.submission.taken_count.Goals as goal
 

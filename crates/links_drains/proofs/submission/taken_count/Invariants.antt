@@ -1,7 +1,4 @@
-use Rattle.std.proofs.Common.{◌≤◌}
-use Rattle.std.specs.Prelude.{is_none}
-use Rattle.std.specs.List.{prefix_len}
-use Rattle.links_drains.specs.Batches.{errors_of}
+use Rattle.links_drains.proofs.Common.{◌≤◌, is_none, prefix_len, errors_of}
 use Rattle.links_drains.proofs.submission.taken_count.Given as goal
 
 abbrev pub invariant-loop-i : goal.invariant-loop-i

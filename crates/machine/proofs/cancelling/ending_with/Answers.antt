@@ -1,7 +1,5 @@
 use Rattle.std.proofs.Common.{◌∙◌, ap, ℕ, ℤ, List, [], ◌∷◌, ◌++◌, nat_lt, append_assoc, FitsSigned, w32, rules}
-use Rattle.std.proofs.lemmas.Int.{to_z-of_z}
-use Rattle.links_drains.specs.Endings.{Ending}
-use Rattle.machine.specs.Cancels.{canceled}
+use Rattle.machine.proofs.Common.{to_z-of_z, Ending, canceled}
 use Rattle.machine.proofs.cancelling.ending_with.Goals as goal
 
 pub returns : goal.returns

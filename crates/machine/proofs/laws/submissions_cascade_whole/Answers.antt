@@ -1,5 +1,4 @@
-use Rattle.timeouts_cancel.proofs.Whole.{whole}
-use Rattle.machine.specs.Steps.{taken}
+use Rattle.machine.proofs.Common.{whole, taken}
 use Rattle.machine.proofs.WholeCascades.{taken_formed}
 use Rattle.machine.proofs.laws.submissions_cascade_whole.Goals as goal
 

@@ -1,6 +1,4 @@
-use Rattle.std.proofs.Common.{refl}
-use Rattle.std.proofs.lemmas.Option.{slice_get_read}
-use Rattle.scenario.specs.Programs.{HasWidths}
+use Rattle.machine.proofs.Common.{refl, slice_get_read, HasWidths}
 use Rattle.machine.proofs.StartLemmas.{below_on, all_below, copied_on}
 use Rattle.machine.proofs.starting.start_thread.Goals as goal
 

@@ -1,7 +1,4 @@
-use Rattle.std.proofs.Common.{◌≡◌, ℕ, ◌<◌, take}
-use Rattle.std.specs.Prelude.{Some, slice_get}
-use Rattle.scenario.specs.Programs.{HasWidths}
-use Rattle.scenario.specs.declared.setup.Instruction.{Instruction}
+use Rattle.machine.proofs.Common.{◌≡◌, ℕ, ◌<◌, take, Some, slice_get, HasWidths, Instruction}
 use Rattle.machine.proofs.starting.start_thread.Given as goal
 
 abbrev pub invariant-loop-instruction : goal.invariant-loop-instruction

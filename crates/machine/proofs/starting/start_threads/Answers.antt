@@ -1,9 +1,4 @@
-use Rattle.std.proofs.Common.{◌≡◌, ◌∙◌, ℕ, List, refl, ap, subst}
-use Rattle.std.specs.Prelude.{Some, slice_get}
-use Rattle.std.proofs.lemmas.Option.{slice_get_read}
-use Rattle.scenario.specs.Programs.{HasWidths}
-use Rattle.machine.specs.Threads.{thread_start}
-use Rattle.scenario.specs.declared.setup.Instruction.{Instruction}
+use Rattle.machine.proofs.Common.{◌≡◌, ◌∙◌, ℕ, List, refl, ap, subst, Some, slice_get, slice_get_read, HasWidths, thread_start, Instruction}
 use Rattle.machine.proofs.StartLemmas.{below_on, all_below, mapped_on}
 use Rattle.machine.proofs.starting.start_threads.Goals as goal
 

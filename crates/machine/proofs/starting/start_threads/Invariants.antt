@@ -1,8 +1,5 @@
-use Rattle.std.proofs.Common.{◌≡◌, ℕ, ◌<◌, take, List}
+use Rattle.machine.proofs.Common.{◌≡◌, ℕ, ◌<◌, take, List, HasWidths, thread_start, Instruction}
 use Rattle.std.specs.Prelude.{Some, slice_get, map}
-use Rattle.scenario.specs.Programs.{HasWidths}
-use Rattle.machine.specs.Threads.{thread_start}
-use Rattle.scenario.specs.declared.setup.Instruction.{Instruction}
 use Rattle.machine.proofs.starting.start_threads.Given as goal
 
 abbrev pub invariant-loop-program : goal.invariant-loop-program

@@ -1,8 +1,4 @@
-use Rattle.std.proofs.Common.{◌≡◌, ◌-◌, List, ℕ, refl, sym, subst, length, take, arith}
-use Rattle.std.proofs.lemmas.List.{take_all}
-use Rattle.std.proofs.lemmas.Option.{slice_get_read}
-use Rattle.entries.specs.declared.row.Row.{Row}
-use Rattle.links_drains.specs.Finders.{Findable}
+use Rattle.links_drains.proofs.Common.{◌≡◌, ◌-◌, List, ℕ, refl, sym, subst, length, take, arith, take_all, slice_get_read, Row, Findable}
 use Rattle.links_drains.proofs.Finding.{findable_pops, place_left}
 use Rattle.links_drains.proofs.finder.Finder.cut.Goals as goal
 

@@ -1,5 +1,4 @@
-use Rattle.std.proofs.Common.{◌≤◌, length, take}
-use Rattle.links_drains.specs.Finders.{Findable}
+use Rattle.links_drains.proofs.Common.{◌≤◌, length, take, Findable}
 use Rattle.links_drains.proofs.finder.Finder.cut.Given as goal
 
 abbrev pub invariant-loop-r : goal.invariant-loop-r

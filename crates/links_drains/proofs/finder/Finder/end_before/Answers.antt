@@ -1,6 +1,4 @@
-use Rattle.std.proofs.Common.{◌≡◌, ◌∙◌, refl, sym, get_or, length, arith}
-use Rattle.std.proofs.lemmas.List.{get_or_read}
-use Rattle.std.proofs.lemmas.Option.{slice_get_read}
+use Rattle.links_drains.proofs.Common.{◌≡◌, ◌∙◌, refl, sym, get_or, length, arith, get_or_read, slice_get_read}
 use Rattle.links_drains.proofs.Finding.{no_user_before}
 use Rattle.links_drains.proofs.finder.Finder.end_before.Goals as goal
 

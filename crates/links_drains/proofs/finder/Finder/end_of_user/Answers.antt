@@ -1,5 +1,4 @@
-use Rattle.std.proofs.Common.{◌≡◌, ap, get_or, arith}
-use Rattle.std.proofs.lemmas.List.{get_or_read}
+use Rattle.links_drains.proofs.Common.{◌≡◌, ap, get_or, arith, get_or_read}
 use Rattle.links_drains.proofs.Finding.{no_user}
 use Rattle.links_drains.proofs.finder.Finder.end_of_user.Goals as goal
 

@@ -1,5 +1,4 @@
-use Rattle.std.proofs.Common.{◌≡◌, ◌∙◌, ap, get_or, set, length, ◌+◌, arith}
-use Rattle.std.proofs.lemmas.List.{get_or_read, length-set}
+use Rattle.links_drains.proofs.Common.{◌≡◌, ◌∙◌, ap, get_or, set, length, ◌+◌, arith, get_or_read, length-set}
 use Rattle.links_drains.proofs.finder.Finder.link.Goals as goal
 
 pub index-requires : goal.index-requires

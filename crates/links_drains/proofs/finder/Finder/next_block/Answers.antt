@@ -1,5 +1,4 @@
-use Rattle.std.proofs.Common.{ℕ, ◌∙◌, ◌/◌, ap, sym, subst, arith}
-use Rattle.bit_sets.specs.Sets.{IsNext, NoneFrom}
+use Rattle.links_drains.proofs.Common.{ℕ, ◌∙◌, ◌/◌, ap, sym, subst, arith, IsNext, NoneFrom}
 use Rattle.links_drains.proofs.Finding.{mark_is, marked_later, no_marks, unmarked}
 use Rattle.links_drains.proofs.finder.Finder.next_block.Goals as goal
 

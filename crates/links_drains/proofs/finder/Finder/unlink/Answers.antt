@@ -1,5 +1,4 @@
-use Rattle.std.proofs.Common.{◌≡◌, ◌∙◌, ap, get_or, set, arith}
-use Rattle.std.proofs.lemmas.List.{get_or_read}
+use Rattle.links_drains.proofs.Common.{◌≡◌, ◌∙◌, ap, get_or, set, arith, get_or_read}
 use Rattle.links_drains.proofs.finder.Finder.unlink.Goals as goal
 
 pub index-requires : goal.index-requires

@@ -1,5 +1,4 @@
-use Rattle.std.proofs.Common.{refl, sym, inl, length, arith}
-use Rattle.std.proofs.lemmas.Option.{slice_get_read}
+use Rattle.links_drains.proofs.Common.{refl, sym, inl, length, arith, slice_get_read}
 use Rattle.links_drains.proofs.Eligibility.{eligible_in_drain, eligible_in_turn, waits_for_least}
 use Rattle.links_drains.proofs.index.Index.is_eligible.Goals as goal
 

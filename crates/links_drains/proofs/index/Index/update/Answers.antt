@@ -1,8 +1,4 @@
-use Rattle.std.proofs.Common.{◌∙◌, ap, arith}
-use Rattle.std.proofs.lemmas.Option.{get_or_from_slice_get, slice_get_within}
-use Rattle.entries.specs.declared.row.Row.{Row}
-use Rattle.links_drains.specs.Links.{has_drain_flag}
-use Rattle.links_drains.specs.Units.{is_issued_row, is_open}
+use Rattle.links_drains.proofs.Common.{◌∙◌, ap, arith, get_or_from_slice_get, slice_get_within, Row, has_drain_flag, is_issued_row, is_open}
 use Rattle.links_drains.proofs.Indexing.{counted_room, tied, tied_thresholds, updated_index}
 use Rattle.links_drains.proofs.index.Index.update.Goals as goal
 

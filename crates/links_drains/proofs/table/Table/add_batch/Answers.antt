@@ -1,5 +1,4 @@
-use Rattle.std.proofs.Common.{◌∙◌, ◌+◌, ap, length, length-append}
-use Rattle.links_drains.specs.Batches.{rows_of}
+use Rattle.links_drains.proofs.Common.{◌∙◌, ◌+◌, ap, length, length-append, rows_of}
 use Rattle.links_drains.proofs.Batching.{length-rows_of}
 use Rattle.links_drains.proofs.table.Table.add_batch.Goals as goal
 

@@ -1,5 +1,4 @@
-use Rattle.std.proofs.Common.{◌≡◌, ◌∙◌, ◌≤◌, ◌+◌, sym, ap, length, cond, arith}
-use Rattle.std.proofs.lemmas.Option.{slice_get-get_or}
+use Rattle.links_drains.proofs.Common.{◌≡◌, ◌∙◌, ◌≤◌, ◌+◌, sym, ap, length, cond, arith, slice_get-get_or}
 use Rattle.links_drains.proofs.Batching.{all_added, element_there, next_continues, adding_on}
 use Rattle.links_drains.proofs.table.Table.add_rows.Goals as goal
 use Rattle.links_drains.proofs.table.Table.add_rows.Goals.{then-begins, else-begins}

@@ -1,9 +1,5 @@
-use Rattle.std.proofs.Common.{◌∙◌, ap, ℕ, ℤ, pos, slice_index_or, w32, FitsSigned, rules, arith}
+use Rattle.links_drains.proofs.Common.{◌∙◌, ap, ℕ, ℤ, pos, slice_index_or, w32, FitsSigned, rules, arith, slice_get-get_or, Row, Ended, updated}
 use Rattle.std.proofs.lemmas.Int.{to_z-of_z}
-use Rattle.std.proofs.lemmas.Option.{slice_get-get_or}
-use Rattle.entries.specs.declared.row.Row.{Row}
-use Rattle.entries.specs.declared.row.Phase.TheVariants.{Ended}
-use Rattle.places.specs.Lists.{updated}
 use Rattle.links_drains.proofs.EndingRows.{ending_on, ending_done}
 use Rattle.links_drains.proofs.table.Table.end_all.Goals as goal
 

@@ -1,6 +1,4 @@
-use Rattle.std.proofs.Common.{refl, sym, ◌∙◌}
-use Rattle.places.proofs.ListLemmas.{updated_set}
-use Rattle.places.proofs.Keeping.{keeps_noted}
+use Rattle.links_drains.proofs.Common.{refl, sym, ◌∙◌, updated_set, keeps_noted}
 use Rattle.links_drains.proofs.Fixed.{fixed_here}
 use Rattle.links_drains.proofs.Remaining.{stay_set}
 use Rattle.links_drains.proofs.Seen.{seen_row}

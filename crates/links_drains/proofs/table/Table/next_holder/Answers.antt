@@ -1,5 +1,4 @@
-use Rattle.std.proofs.Common.{arith}
-use Rattle.std.proofs.lemmas.Option.{slice_get_within}
+use Rattle.links_drains.proofs.Common.{arith, slice_get_within}
 use Rattle.links_drains.proofs.table.Table.next_holder.Goals as goal
 
 pub overflow_cast-result : goal.overflow_cast-result

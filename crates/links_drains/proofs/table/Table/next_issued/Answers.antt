@@ -1,6 +1,4 @@
-use Rattle.std.proofs.Common.{sym, arith}
-use Rattle.std.proofs.lemmas.Option.{slice_get_within}
-use Rattle.links_drains.specs.Units.{is_issued_row}
+use Rattle.links_drains.proofs.Common.{sym, arith, slice_get_within, is_issued_row}
 use Rattle.links_drains.proofs.NextRows.{next_found, next_is, none_found, none_is}
 use Rattle.links_drains.proofs.table.Table.next_issued.Goals as goal
 

@@ -1,5 +1,4 @@
-use Rattle.std.proofs.Common.{arith}
-use Rattle.std.proofs.lemmas.Option.{slice_get_within}
+use Rattle.links_drains.proofs.Common.{arith, slice_get_within}
 use Rattle.links_drains.proofs.MetRows.{met_found, none_met}
 use Rattle.links_drains.proofs.table.Table.next_met.Goals as goal
 

@@ -1,6 +1,4 @@
-use Rattle.std.proofs.Common.{arith}
-use Rattle.std.proofs.lemmas.Option.{slice_get_within}
-use Rattle.links_drains.specs.Units.{is_open}
+use Rattle.links_drains.proofs.Common.{arith, slice_get_within, is_open}
 use Rattle.links_drains.proofs.NextRows.{next_found, none_found}
 use Rattle.links_drains.proofs.table.Table.next_unfinished.Goals as goal
 

@@ -1,10 +1,5 @@
-use Rattle.std.proofs.Common.{◌≡◌, refl, sym, ap, length, arith}
-use Rattle.std.specs.Prelude.{None, option_map, slice_get}
-use Rattle.std.proofs.lemmas.Option.{slice_get_past}
-use Rattle.places.specs.declared.value.Value.TheVariants.{Requested}
+use Rattle.links_drains.proofs.Common.{◌≡◌, refl, sym, ap, length, arith, None, option_map, slice_get, slice_get_past, Requested, keeps_noted, keeps_unchanged, table_owns, table_seen}
 use Rattle.places.specs.declared.place.Place.TheVariants.{Request}
-use Rattle.places.proofs.Keeping.{keeps_noted, keeps_unchanged}
-use Rattle.links_drains.specs.Rows.{table_owns, table_seen}
 use Rattle.links_drains.proofs.Indexing.{indexed_push}
 use Rattle.links_drains.proofs.RowsKept.{get-pushed}
 use Rattle.links_drains.proofs.Seen.{seen_push}

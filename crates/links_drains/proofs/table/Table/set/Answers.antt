@@ -1,6 +1,4 @@
-use Rattle.std.proofs.Common.{refl, length, arith}
-use Rattle.std.proofs.lemmas.Option.{slice_get_read}
-use Rattle.places.proofs.ListLemmas.{slice_get-set_same}
+use Rattle.links_drains.proofs.Common.{refl, length, arith, slice_get_read, slice_get-set_same}
 use Rattle.links_drains.proofs.Finding.{findable_set, place_at}
 use Rattle.links_drains.proofs.Fixed.{fixed_at, fixed_within, same_count, same_unit}
 use Rattle.links_drains.proofs.Indexing.{indexed_set}

@@ -1,6 +1,4 @@
-use Rattle.std.proofs.Common.{◌≡◌}
-use Rattle.std.specs.Prelude.{Some, None}
-use Rattle.places.specs.declared.value.Value.TheVariants.{Requested}
+use Rattle.links_drains.proofs.Common.{◌≡◌, Some, None, Requested}
 use Rattle.links_drains.proofs.Fixed.{fixed_within, fixed_all}
 use Rattle.links_drains.proofs.Seen.{seen_row, seen_taken}
 use Rattle.links_drains.proofs.table.TablePart.put.Goals as goal

@@ -1,7 +1,5 @@
-use Rattle.std.proofs.Common.{◌≡◌, ◌<◌, ◌^◌, sym, subst, ◌∙◌, rules}
-use Rattle.std.specs.Prelude.{None}
+use Rattle.machine.proofs.Common.{◌≡◌, ◌<◌, ◌^◌, sym, subst, ◌∙◌, rules, None, WellFormed}
 use Rattle.scenario.specs.Setups.{setup_refusal}
-use Rattle.machine.specs.Whole.{WellFormed}
 use Rattle.machine.proofs.StartLemmas.{formed_start}
 use Rattle.machine.proofs.state.State.new.Goals as goal
 

@@ -1,5 +1,4 @@
-use Rattle.std.proofs.Common.{sym, subst}
-use Rattle.machine.specs.Whole.{WellFormed}
+use Rattle.machine.proofs.Common.{sym, subst, WellFormed}
 use Rattle.machine.proofs.Linking.{goes_back}
 use Rattle.machine.proofs.state.State.put_back.Goals as goal
 

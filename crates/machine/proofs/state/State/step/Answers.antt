@@ -1,6 +1,5 @@
-use Rattle.std.proofs.Common.{sym, subst, ◌∙◌}
+use Rattle.machine.proofs.Common.{sym, subst, ◌∙◌, WellFormed}
 use Rattle.places.proofs.Closing.{exact_led}
-use Rattle.machine.specs.Whole.{WellFormed}
 use Rattle.machine.proofs.Formed.{formed_after}
 use Rattle.machine.proofs.PuttingBack.{back_from_exact}
 use Rattle.machine.proofs.Linking.{back_from_keeps, none_named}

@@ -1,7 +1,4 @@
-use Rattle.std.proofs.Common.{sym, refl, arith}
-use Rattle.std.proofs.lemmas.Option.{slice_get_read}
-use Rattle.places.proofs.ListLemmas.{map_same, updated_set}
-use Rattle.places.proofs.Keeping.{keeps_noted}
+use Rattle.machine.proofs.Common.{sym, refl, arith, slice_get_read, map_same, updated_set, keeps_noted}
 use Rattle.machine.proofs.ThreadLemmas.{seen_counter}
 use Rattle.machine.proofs.threads.Threads.advance.Goals as goal
 

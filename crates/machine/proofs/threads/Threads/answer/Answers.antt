@@ -1,6 +1,5 @@
-use Rattle.std.proofs.Common.{rules, w64}
+use Rattle.machine.proofs.Common.{rules, w64, to_z-of_z}
 use Rattle.std.specs.Prelude.{FitsSigned}
-use Rattle.std.proofs.lemmas.Int.{to_z-of_z}
 use Rattle.machine.proofs.ThreadLemmas.{updated_then}
 use Rattle.machine.proofs.threads.Threads.answer.Goals as goal
 

@@ -1,8 +1,5 @@
-use Rattle.std.proofs.Common.{sym, ap, refl}
+use Rattle.machine.proofs.Common.{sym, ap, refl, slice_get_read, Ready, ThreadState}
 use Rattle.std.specs.Arc.{arc_value}
-use Rattle.std.proofs.lemmas.Option.{slice_get_read}
-use Rattle.places.specs.declared.value.Stage.TheVariants.{Ready}
-use Rattle.machine.specs.Threads.{ThreadState}
 use Rattle.machine.proofs.ThreadLemmas.{updated_same}
 use Rattle.machine.proofs.threads.Threads.be_ready.Goals as goal
 

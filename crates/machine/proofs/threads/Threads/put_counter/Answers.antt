@@ -1,6 +1,4 @@
-use Rattle.std.proofs.Common.{refl}
-use Rattle.std.proofs.lemmas.Option.{slice_get_read}
-use Rattle.places.proofs.ListLemmas.{map_same}
+use Rattle.machine.proofs.Common.{refl, slice_get_read, map_same}
 use Rattle.machine.proofs.ThreadLemmas.{seen_counter}
 use Rattle.machine.proofs.threads.Threads.put_counter.Goals as goal
 

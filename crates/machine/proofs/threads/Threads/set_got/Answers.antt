@@ -1,8 +1,4 @@
-use Rattle.std.proofs.Common.{sym, refl}
-use Rattle.std.proofs.lemmas.Option.{slice_get_read}
-use Rattle.places.specs.declared.place.Place.TheVariants.{Got}
-use Rattle.places.proofs.ListLemmas.{map_same, updated_set}
-use Rattle.places.proofs.Keeping.{keeps_noted}
+use Rattle.machine.proofs.Common.{sym, refl, slice_get_read, Got, map_same, updated_set, keeps_noted}
 use Rattle.machine.proofs.ThreadLemmas.{seen_got}
 use Rattle.machine.proofs.threads.Threads.set_got.Goals as goal
 

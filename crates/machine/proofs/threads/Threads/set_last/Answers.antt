@@ -1,10 +1,5 @@
-use Rattle.std.proofs.Common.{sym, refl, rules, w64}
+use Rattle.machine.proofs.Common.{sym, refl, rules, w64, to_z-of_z, slice_get_read, Last, map_same, updated_set, keeps_noted}
 use Rattle.std.specs.Prelude.{FitsSigned}
-use Rattle.std.proofs.lemmas.Int.{to_z-of_z}
-use Rattle.std.proofs.lemmas.Option.{slice_get_read}
-use Rattle.places.specs.declared.place.Place.TheVariants.{Last}
-use Rattle.places.proofs.ListLemmas.{map_same, updated_set}
-use Rattle.places.proofs.Keeping.{keeps_noted}
 use Rattle.machine.proofs.ThreadLemmas.{seen_last}
 use Rattle.machine.proofs.threads.Threads.set_last.Goals as goal
 

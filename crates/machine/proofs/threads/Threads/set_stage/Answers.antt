@@ -1,8 +1,4 @@
-use Rattle.std.proofs.Common.{sym, refl}
-use Rattle.std.proofs.lemmas.Option.{slice_get_read}
-use Rattle.places.specs.declared.place.Place.TheVariants.{ThreadStage}
-use Rattle.places.proofs.ListLemmas.{map_same, updated_set}
-use Rattle.places.proofs.Keeping.{keeps_noted}
+use Rattle.machine.proofs.Common.{sym, refl, slice_get_read, ThreadStage, map_same, updated_set, keeps_noted}
 use Rattle.machine.proofs.ThreadLemmas.{seen_stage}
 use Rattle.machine.proofs.threads.Threads.set_stage.Goals as goal
 

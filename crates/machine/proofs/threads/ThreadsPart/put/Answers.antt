@@ -1,10 +1,4 @@
-use Rattle.std.proofs.Common.{◌≡◌, refl}
-use Rattle.std.specs.Prelude.{Some}
-use Rattle.std.proofs.lemmas.Option.{slice_get_read}
-use Rattle.std.proofs.lemmas.Int.{to_z-of_z}
-use Rattle.std.proofs.Common.{w64}
-use Rattle.places.specs.declared.value.Value.TheVariants.{Number, Signed, Staged, Reaped}
-use Rattle.places.proofs.ListLemmas.{map_same}
+use Rattle.machine.proofs.Common.{◌≡◌, refl, Some, slice_get_read, to_z-of_z, w64, Number, Signed, Staged, Reaped, map_same}
 use Rattle.machine.proofs.ThreadLemmas.{seen_counter, seen_stage, seen_last, seen_got}
 use Rattle.machine.proofs.threads.ThreadsPart.put.Goals as goal
 

@@ -1,11 +1,5 @@
-use Rattle.std.proofs.Common.{◌≡◌, ◌∙◌, ap, sym, subst, OnOk}
-use Rattle.std.specs.Prelude.{slice_get}
-use Rattle.std.specs.Option.{option_map_or}
-use Rattle.entries.specs.declared.row.Row.{Row}
-use Rattle.links_drains.specs.Endings.{Direct}
-use Rattle.machine.specs.Cancels.{verdict_of, ending_with}
+use Rattle.machine.proofs.Common.{◌≡◌, ◌∙◌, ap, sym, subst, OnOk, slice_get, option_map_or, Row, Direct, verdict_of, ending_with, Machine}
 use Rattle.machine.specs.Steps.{cancelled, cascaded}
-use Rattle.machine.specs.declared.whole.Machine.{Machine}
 use Rattle.machine.proofs.CancelLemmas.{direct_cancel}
 use Rattle.machine.proofs.GuardLemmas.{guards_linked}
 use Rattle.machine.proofs.whole.Machine.cancel.Goals as goal

@@ -1,9 +1,5 @@
-use Rattle.std.proofs.Common.{◌≡◌, ◌∙◌, ap, sym, subst, OnOk, arith}
-use Rattle.links_drains.specs.Endings.{Direct}
-use Rattle.links_drains.proofs.Counting.{counted-le-length}
-use Rattle.timeouts_cancel.specs.Cascades.{fall_of}
+use Rattle.machine.proofs.Common.{◌≡◌, ◌∙◌, ap, sym, subst, OnOk, arith, Direct, counted-le-length, fall_of, Machine}
 use Rattle.machine.specs.Steps.{all_ended, cascaded}
-use Rattle.machine.specs.declared.whole.Machine.{Machine}
 use Rattle.machine.proofs.CascadedRows.{direct_cascade}
 use Rattle.machine.proofs.whole.Machine.cascade.Goals as goal
 

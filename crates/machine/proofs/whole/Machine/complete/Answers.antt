@@ -1,13 +1,4 @@
-use Rattle.std.proofs.Common.{◌≡◌, sym, ◌∙◌, ap, subst, w32, FitsSigned, rules}
-use Rattle.std.proofs.lemmas.Int.{to_z-of_z}
-use Rattle.entries.specs.declared.row.Row.{Row}
-use Rattle.links_drains.specs.Holding.{is_held_by}
-use Rattle.model_files.specs.Worlds.{WorldState}
-use Rattle.opcodes.specs.Effects.{world_after}
-use Rattle.opcodes.specs.Outcomes.{outcome_of}
-use Rattle.opcodes.specs.declared.ending.Outcome.TheVariants.{Res}
-use Rattle.opcodes.proofs.Staying.{stays_after}
-use Rattle.machine.specs.Whole.{Mostly}
+use Rattle.machine.proofs.Common.{◌≡◌, sym, ◌∙◌, ap, subst, w32, FitsSigned, rules, to_z-of_z, Row, is_held_by, WorldState, world_after, outcome_of, Res, stays_after, Mostly}
 use Rattle.machine.proofs.CascadedRows.{direct_one}
 use Rattle.machine.proofs.FormedMachines.{mostly, mostly_world}
 use Rattle.machine.proofs.PipeCounts.{puts_fit}

@@ -1,7 +1,4 @@
-use Rattle.std.proofs.Common.{◌∙◌, ap, sym, ℕ, ℤ, ◌∷◌, [], ◌++◌, take, pos, slice_index_or, w32, FitsSigned, rules}
-use Rattle.std.proofs.lemmas.Int.{to_z-of_z}
-use Rattle.std.proofs.lemmas.List.{take_more}
-use Rattle.machine.specs.Steps.{completion_of, completions_of}
+use Rattle.machine.proofs.Common.{◌∙◌, ap, sym, ℕ, ℤ, ◌∷◌, [], ◌++◌, take, pos, slice_index_or, w32, FitsSigned, rules, to_z-of_z, take_more, completion_of, completions_of}
 use Rattle.machine.proofs.FormedMachines.{completions_more}
 use Rattle.machine.proofs.whole.Machine.completions_of.Goals as goal
 

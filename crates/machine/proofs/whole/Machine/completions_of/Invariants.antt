@@ -1,5 +1,4 @@
-use Rattle.std.proofs.Common.{◌≡◌, take}
-use Rattle.machine.specs.Steps.{completions_of}
+use Rattle.machine.proofs.Common.{◌≡◌, take, completions_of}
 use Rattle.machine.proofs.whole.Machine.completions_of.Given as goal
 
 abbrev pub invariant-loop-i : goal.invariant-loop-i

@@ -1,5 +1,4 @@
-use Rattle.std.proofs.Common.{◌≡◌, ap, arith}
-use Rattle.machine.specs.declared.whole.Machine.{Machine}
+use Rattle.machine.proofs.Common.{◌≡◌, ap, arith, Machine}
 use Rattle.machine.proofs.FormedMachines.{counts_of_endings, room_for_endings}
 use Rattle.machine.proofs.whole.Machine.end_all.Goals as goal
 

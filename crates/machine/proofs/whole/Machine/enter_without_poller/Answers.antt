@@ -1,6 +1,4 @@
-use Rattle.std.proofs.Common.{◌∙◌, ap, sym, subst}
-use Rattle.machine.specs.Whole.{WellFormed}
-use Rattle.machine.specs.declared.whole.Machine.{Machine}
+use Rattle.machine.proofs.Common.{◌∙◌, ap, sym, subst, WellFormed, Machine}
 use Rattle.machine.proofs.Formed.{formed_before, before_threads, submitted_threads}
 use Rattle.machine.proofs.InstructionLemmas.{there_still, can_advance_still}
 use Rattle.machine.proofs.EnterLemmas.{busy_answer}

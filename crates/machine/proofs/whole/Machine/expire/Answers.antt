@@ -1,6 +1,4 @@
-use Rattle.std.proofs.Common.{◌≡◌, sym, ◌∙◌, ap}
-use Rattle.entries.specs.declared.row.Row.{Row}
-use Rattle.entries.specs.declared.row.Phase.TheVariants.{Issued}
+use Rattle.machine.proofs.Common.{◌≡◌, sym, ◌∙◌, ap, Row, Issued}
 use Rattle.machine.proofs.EnterLemmas.{expired_row}
 use Rattle.machine.proofs.ExpiryLemmas.{direct_pair}
 use Rattle.machine.proofs.GuardLemmas.{same_row, guards_linked}

@@ -1,13 +1,5 @@
 use Rattle.std.proofs.Common.{◌≡◌, sym, ◌∙◌, ap, subst, true, false, ℕ, ◌+◌, arith, OnOk, Some}
-use Rattle.std.specs.Prelude.{slice_get}
-use Rattle.std.specs.Option.{option_map_or}
-use Rattle.entries.specs.declared.row.Row.{Row}
-use Rattle.places.specs.Lists.{updated}
-use Rattle.entries.specs.declared.row.Phase.TheVariants.{Queued}
-use Rattle.links_drains.specs.Phases.{is_ended, is_unfinished}
-use Rattle.machine.specs.Steps.{is_guard_of, started}
-use Rattle.machine.specs.declared.whole.Machine.{Machine}
-use Rattle.machine.specs.Whole.{IsTime, WellFormed}
+use Rattle.machine.proofs.Common.{slice_get, option_map_or, Row, updated, Queued, is_ended, is_unfinished, is_guard_of, started, Machine, IsTime, WellFormed}
 use Rattle.machine.proofs.EnterLemmas.{can_start, issued_with_guard}
 use Rattle.machine.proofs.CascadedRows.{direct_one}
 use Rattle.machine.proofs.FormedMachines.{mostly}

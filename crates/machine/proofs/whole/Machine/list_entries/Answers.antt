@@ -1,6 +1,5 @@
-use Rattle.std.proofs.Common.{◌∙◌, sym, ap, [], ◌∷◌, ◌++◌}
+use Rattle.machine.proofs.Common.{◌∙◌, sym, ap, [], ◌∷◌, ◌++◌, entries_at}
 use Rattle.ring_words.specs.Rings.{sub_list}
-use Rattle.machine.specs.Submission.{entries_at}
 use Rattle.machine.proofs.TakingWords.{one_more, entries-named, entries-skipped}
 use Rattle.machine.proofs.whole.Machine.list_entries.Goals as goal
 use Rattle.machine.proofs.whole.Machine.list_entries.Goals.{in-Some+in_ok-push, in_default}

@@ -1,6 +1,5 @@
-use Rattle.std.proofs.Common.{◌≡◌, take}
+use Rattle.machine.proofs.Common.{◌≡◌, take, entries_at}
 use Rattle.ring_words.specs.Rings.{sub_list}
-use Rattle.machine.specs.Submission.{entries_at}
 use Rattle.machine.proofs.whole.Machine.list_entries.Given as goal
 
 abbrev pub invariant-loop-i : goal.invariant-loop-i

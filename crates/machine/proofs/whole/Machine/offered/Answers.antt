@@ -1,5 +1,4 @@
-use Rattle.std.proofs.Common.{sym, ◌∙◌, ap}
-use Rattle.std.specs.Prelude.{min}
+use Rattle.machine.proofs.Common.{sym, ◌∙◌, ap, min}
 use Rattle.std.proofs.lemmas.List.{length-take}
 use Rattle.machine.proofs.whole.Machine.offered.Goals as goal
 

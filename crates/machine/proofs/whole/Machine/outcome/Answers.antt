@@ -1,7 +1,5 @@
-use Rattle.std.proofs.Common.{◌≡◌, ◌∙◌, ap}
+use Rattle.machine.proofs.Common.{◌≡◌, ◌∙◌, ap, is_held_by, outcome_of}
 use Rattle.model_files.specs.Holders.{is_held}
-use Rattle.links_drains.specs.Holding.{is_held_by}
-use Rattle.opcodes.specs.Outcomes.{outcome_of}
 use Rattle.machine.proofs.whole.Machine.outcome.Goals as goal
 
 pub returns : goal.returns

@@ -1,7 +1,4 @@
-use Rattle.std.proofs.Common.{sym, subst, ℤ, w32, FitsSigned, rules}
-use Rattle.std.proofs.lemmas.Int.{to_z-of_z}
-use Rattle.machine.specs.Plans.{CanDo}
-use Rattle.machine.specs.declared.planning.Plan.TheVariants.{Complete}
+use Rattle.machine.proofs.Common.{sym, subst, ℤ, w32, FitsSigned, rules, to_z-of_z, CanDo, Complete}
 use Rattle.machine.proofs.whole.Machine.perform.Goals as goal
 
 pub complete-requires-clause-can : goal.complete-requires-clause-can

@@ -1,14 +1,5 @@
 use Rattle.std.proofs.Common.{◌≡◌, ◌∙◌, sym, subst, Some, false, w32, FitsSigned, rules, ℤ}
-use Rattle.std.specs.Prelude.{slice_get}
-use Rattle.std.proofs.lemmas.Int.{to_z-of_z}
-use Rattle.entries.specs.declared.row.Phase.TheVariants.{Issued}
-use Rattle.links_drains.specs.Holding.{is_held_by}
-use Rattle.opcodes.specs.Opcodes.{is_cancel, is_timer}
-use Rattle.opcodes.specs.Outcomes.{outcome_of}
-use Rattle.opcodes.specs.declared.ending.Outcome.TheVariants.{Res}
-use Rattle.machine.specs.Plans.{Plans}
-use Rattle.machine.specs.declared.planning.Plan.TheVariants.{Complete}
-use Rattle.scenario.specs.declared.event.Event.TheVariants.{Finish}
+use Rattle.machine.proofs.Common.{slice_get, to_z-of_z, Issued, is_held_by, is_cancel, is_timer, outcome_of, Res, Plans, Complete, Finish}
 use Rattle.machine.proofs.PlanLemmas.{complete_planned, finish_of_other}
 use Rattle.machine.proofs.whole.Machine.plan_finish.Goals as goal
 

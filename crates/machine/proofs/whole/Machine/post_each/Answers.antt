@@ -1,9 +1,5 @@
 use Rattle.std.proofs.Common.{◌≡◌, ◌∙◌, ap, sym, subst, List, ℕ, ℤ, ◌∷◌, [], length, pos, slice_index_or, w32, FitsSigned, rules, arith, OnOk, Some}
-use Rattle.std.specs.Prelude.{slice_get}
-use Rattle.std.proofs.lemmas.Int.{to_z-of_z}
-use Rattle.std.proofs.lemmas.Option.{slice_get-get_or, slice_get_within}
-use Rattle.entries.specs.declared.completion.Cqe.{Cqe}
-use Rattle.machine.specs.Steps.{completion_of, completions_of, posted}
+use Rattle.machine.proofs.Common.{slice_get, to_z-of_z, slice_get-get_or, slice_get_within, Cqe, completion_of, completions_of, posted}
 use Rattle.machine.proofs.FormedMachines.{completions_more, completions_most, only_ending, room_for_endings}
 use Rattle.machine.proofs.whole.Machine.post_each.Goals as goal
 

@@ -1,8 +1,4 @@
-use Rattle.std.proofs.Common.{◌<◌, sym, subst, length}
-use Rattle.places.specs.View.{Keeps}
-use Rattle.places.proofs.Keeping.{keeps_then}
-use Rattle.ring_words.specs.Rings.{SubWords}
-use Rattle.machine.specs.Whole.{view, everywhere}
+use Rattle.machine.proofs.Common.{◌<◌, sym, subst, length, Keeps, keeps_then, SubWords, view, everywhere}
 use Rattle.machine.proofs.Lifting.{keeps_slot, lift_threads}
 use Rattle.machine.proofs.InstructionLemmas.{thread_there, can_advance, is_done}
 use Rattle.machine.proofs.whole.Machine.put_entry.Goals as goal

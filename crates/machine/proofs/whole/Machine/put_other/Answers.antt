@@ -1,6 +1,4 @@
-use Rattle.std.proofs.Common.{◌≡◌}
-use Rattle.std.specs.Prelude.{Some}
-use Rattle.places.specs.declared.value.Value.TheVariants.{Number}
+use Rattle.machine.proofs.Common.{◌≡◌, Some, Number}
 use Rattle.machine.proofs.Lifting.{seen_clock, seen_counted}
 use Rattle.machine.proofs.whole.Machine.put_other.Goals as goal
 

@@ -1,5 +1,4 @@
-use Rattle.std.proofs.Common.{sym, ◌∙◌, ap, ◌++◌}
-use Rattle.machine.specs.Whole.{view}
+use Rattle.machine.proofs.Common.{sym, ◌∙◌, ap, ◌++◌, view}
 use Rattle.machine.proofs.Staying.{remains}
 use Rattle.machine.proofs.Restored.{first_part, second_part, third_part, went_back}
 use Rattle.places.proofs.Undoing.{once_front, once_back}

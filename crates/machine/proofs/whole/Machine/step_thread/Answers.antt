@@ -1,8 +1,6 @@
-use Rattle.model_files.specs.Worlds.{OneSetup as OneWorldSetup}
+use Rattle.machine.proofs.Common.{OneSetup as OneWorldSetup, subst, length, ◌+◌, ◌≤◌, IsDone}
 use Rattle.model_files.proofs.Fixing as worlds
 use Rattle.machine.proofs.Growing.{grows_parts}
-use Rattle.std.proofs.Common.{subst, length, ◌+◌, ◌≤◌}
-use Rattle.scenario.specs.Programs.{IsDone}
 use Rattle.machine.proofs.InstructionLemmas.{is_done, instruction_is_next, thread_there, can_advance}
 use Rattle.machine.proofs.whole.Machine.step_thread.Goals as goal
 

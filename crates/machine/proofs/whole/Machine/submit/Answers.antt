@@ -1,6 +1,4 @@
-use Rattle.std.proofs.Common.{◌≡◌, ◌∙◌, ℕ, ℤ, List, [], sym, subst, arith}
-use Rattle.std.proofs.lemmas.Bool.{eqb-true}
-use Rattle.links_drains.specs.Endings.{Direct}
+use Rattle.machine.proofs.Common.{◌≡◌, ◌∙◌, ℕ, ℤ, List, [], sym, subst, arith, eqb-true, Direct}
 use Rattle.machine.proofs.FormedSubmissions.{cascades_in}
 use Rattle.machine.proofs.NothingTaken.{empty, only_taken}
 use Rattle.machine.proofs.SubmissionLemmas.{accepted_fits}

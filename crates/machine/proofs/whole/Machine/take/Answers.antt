@@ -1,11 +1,5 @@
 use Rattle.std.proofs.Common.{◌∙◌, ◌≡◌, sym, ap, subst, ◌++◌, length, arith, List, ℕ, Bool, if◌then◌else◌}
-use Rattle.entries.specs.declared.entry.Sqe.{Sqe}
-use Rattle.entries.specs.declared.row.Row.{Row}
-use Rattle.links_drains.specs.Batches.{halts, taken_of, rows_of}
-use Rattle.machine.specs.Submission.{offered, offered_entries, entries_at, up_to_entry}
-use Rattle.machine.specs.Steps.{taken, words_for}
-use Rattle.machine.specs.Whole.{Grows}
-use Rattle.machine.specs.declared.whole.Machine.{Machine}
+use Rattle.machine.proofs.Common.{Sqe, Row, halts, taken_of, rows_of, offered, offered_entries, entries_at, up_to_entry, taken, words_for, Grows, Machine}
 use Rattle.machine.proofs.FormedRows.{length-entries_at}
 use Rattle.machine.proofs.Growing.{grows_taken, grows_more}
 use Rattle.machine.proofs.SubmissionLemmas.{take_is_taken, words_least}

@@ -1,7 +1,5 @@
-use Rattle.std.proofs.Common.{◌≡◌, ◌≤◌, ◌∙◌, ap, sym, ℕ, List, true, cond, length, pos, w32, to_z, arith}
-use Rattle.std.proofs.lemmas.Int.{to_z_pos}
+use Rattle.machine.proofs.Common.{◌≡◌, ◌≤◌, ◌∙◌, ap, sym, ℕ, List, true, cond, length, pos, w32, to_z, arith, to_z_pos, Verdict, key_of, takes_all, on_found, on_all}
 use Rattle.timeouts_cancel.specs.Matches.{found_by, waiting_by}
-use Rattle.machine.specs.Cancels.{Verdict, key_of, takes_all, on_found, on_all}
 use Rattle.machine.proofs.CancelLemmas.{few_waiting}
 use Rattle.machine.proofs.whole.Machine.verdict.Goals as goal
 

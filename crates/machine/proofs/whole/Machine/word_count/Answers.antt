@@ -1,7 +1,5 @@
-use Rattle.std.proofs.Common.{arith}
-use Rattle.std.proofs.lemmas.List.{length-take-le}
+use Rattle.machine.proofs.Common.{arith, length-take-le, offered}
 use Rattle.ring_words.specs.Rings.{sub_list}
-use Rattle.machine.specs.Submission.{offered}
 use Rattle.machine.proofs.FormedRows.{length-entries_at}
 use Rattle.machine.proofs.whole.Machine.word_count.Goals as goal
 

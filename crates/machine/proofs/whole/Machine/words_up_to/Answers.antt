@@ -1,9 +1,5 @@
-use Rattle.std.proofs.Common.{◌∙◌, ◌+◌, sym, ap, subst, ℕ, arith}
-use Rattle.std.specs.Prelude.{is_some}
+use Rattle.machine.proofs.Common.{◌∙◌, ◌+◌, sym, ap, subst, ℕ, arith, is_some, slice_get-take_below, length-take-le, offered}
 use Rattle.ring_words.specs.Rings.{sub_list}
-use Rattle.places.proofs.ListLemmas.{slice_get-take_below}
-use Rattle.std.proofs.lemmas.List.{length-take-le}
-use Rattle.machine.specs.Submission.{offered}
 use Rattle.machine.proofs.TakingWords.{Reading, reading_on, reading_there}
 use Rattle.machine.proofs.whole.Machine.words_up_to.Goals as goal
 use Rattle.machine.proofs.whole.Machine.words_up_to.Goals.{then-is_some, else-is_some}

@@ -1,5 +1,4 @@
-use Rattle.std.proofs.Common.{◌-◌}
-use Rattle.machine.specs.Submission.{offered}
+use Rattle.machine.proofs.Common.{◌-◌, offered}
 use Rattle.machine.proofs.TakingWords.{Reading}
 use Rattle.machine.proofs.whole.Machine.words_up_to.Given as goal
 
