@@ -119,3 +119,28 @@ fed_whole p q piece bodies f = (ap (λ (d : Decoded). d.bodies) f.law ∙ ap (λ
 -- Those that were added before a fault are the first ones.
 pub fed_front : (p : Partial) (piece : List ℕ) (bodies : List (List ℕ)) (f : AddsPrefix [] bodies (decode p piece).bodies) → (decode p piece).bodies ≡ bodies ++ f.rest
 fed_front p piece bodies f = f.whole ∙ ap (λ (l : List (List ℕ)). l ++ f.rest) (sym f.added)
+
+-- ---- Several messages
+
+pub converse_none : (s : AdapterState) (n : ℕ) (all : List (List ℕ)) (h : Option (List ℕ)) → all ≡ [] → (written : List ℕ) × Converses s n all written s n false × Appends h h written
+converse_none s n all h e =
+    let none : Converses s n [] [] s n false = (refl, refl, refl, refl) in
+    ([], subst (λ (l : List (List ℕ)). Converses s n l [] s n false) (sym e) none, Appends-nil h)
+
+pub converse_end : (s s' : AdapterState) (n n' : ℕ) (body : List ℕ) (bodies all : List (List ℕ)) (h h' : Option (List ℕ)) → all ≡ body ∷ bodies → (written : List ℕ) × StepsTo s n body written s' n' true × Appends h h' written → (written : List ℕ) × Converses s n all written s' n' true × Appends h h' written
+converse_end s s' n n' body bodies all h h' e p =
+    let last : Converses s n (body ∷ bodies) p.0 s' n' true = inl (p.1, refl) in
+    (p.0, subst (λ (l : List (List ℕ)). Converses s n l p.0 s' n' true) (sym e) last, p.2)
+
+pub converse_on : (s s1 s2 : AdapterState) (n n1 n2 : ℕ) (body : List ℕ) (bodies all : List (List ℕ)) (h h1 h2 : Option (List ℕ)) (ends : Bool) → all ≡ body ∷ bodies → (now : List ℕ) × StepsTo s n body now s1 n1 false × Appends h h1 now → (rest : List ℕ) × Converses s1 n1 bodies rest s2 n2 ends × Appends h1 h2 rest → (written : List ℕ) × Converses s n all written s2 n2 ends × Appends h h2 written
+converse_on s s1 s2 n n1 n2 body bodies all h h1 h2 ends e p q =
+    let on : Converses s n (body ∷ bodies) (p.0 ++ q.0) s2 n2 ends = inr (record {
+  mid = s1;
+  next = n1;
+  now = p.0;
+  rest = q.0;
+  step = p.1;
+  bytes = refl;
+  follows = q.1;
+}) in
+    (p.0 ++ q.0, subst (λ (l : List (List ℕ)). Converses s n l (p.0 ++ q.0) s2 n2 ends) (sym e) on, Appends-trans h h1 h2 p.0 q.0 p.2 q.2)

@@ -1,1 +1,3 @@
 pub mod Conversing
+pub mod Handling
+pub mod Watching

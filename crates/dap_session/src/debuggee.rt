@@ -60,6 +60,8 @@ fn is_at(report: &Report, moment: usize) -> bool {
 
 // Runs a run again, and returns its findings.
 fn reports_on(alloc: Global, walker: &Walker) -> Result<Vec<Report>, AllocError> {
+    // For the proof: how many events a run has at most.
+    let _len = walker.len();
     let (setup, events) = (walker.setup(), walker.events());
     let Ok(mut state) = State::new(alloc, setup) else {
         return Err(AllocError);
@@ -95,9 +97,9 @@ impl Debuggee {
         map: Option<SourceMap>,
     ) -> Debuggee
         ensures { result ≡ record {
-            session = session;
-            watches = nothing;
-            marks = record { breakpoints = []; findings = [] };
+          session = session;
+          watches = nothing;
+          marks = record { breakpoints = []; findings = [] };
         } }
     {
         Debuggee {
@@ -153,10 +155,8 @@ impl Debuggee {
     /// stops, if there is one.
     pub(crate) fn report_at(&self, moment: usize) -> Option<&Report> {
         let filters = self.wanted.filters.as_slice();
-        let wanted = self
-            .reports()
-            .iter()
-            .find(|report| is_at(report, moment) && stops_at(filters, report));
+        let wanted = self.reports().iter().find(|report| is_at(report, moment)
+            && stops_at(filters, report));
         wanted.or(self.reports().iter().find(|report| is_at(report, moment)))
     }
 }
