@@ -267,6 +267,7 @@ impl Debuggee {
     }
 
     /// Runs forward.
+    #[tactic(auto, using(crate::proofs::Watching::watched_later))]
     pub(crate) fn run_on(&mut self, thread: EditorThread) -> Result<Reply, Refusal>
         ensures moved { OnOk result (self.new ≡ gone_to self.old (forward_moment self.old)) }
         ensures err { OnErr result (self.new ≡ self.old) }
@@ -285,6 +286,7 @@ impl Debuggee {
     }
 
     /// Runs back.
+    #[tactic(auto, using(crate::proofs::Watching::watched_earlier))]
     pub(crate) fn run_back(&mut self, thread: EditorThread) -> Result<Reply, Refusal>
         ensures moved { OnOk result (self.new ≡ gone_to self.old (backward_moment self.old)) }
         ensures err { OnErr result (self.new ≡ self.old) }
