@@ -18,7 +18,7 @@ _uringwalk_options() {
     case $1 in
         trace) echo "--form --eager" ;;
         log | timeline) echo "--from --to" ;;
-        explain) echo "--kind --allow --json" ;;
+        explain) echo "--kind --allow --json --sarif" ;;
         explore)
             echo "--kind --until --runs --seed --first --events --out --unlocked --sound-device --threads --json"
             ;;
@@ -64,7 +64,7 @@ _uringwalk_after() {
     fi
 }
 
-_uringwalk_words="walk check trace migrate replay log explain timeline explore schedule live serve help"
+_uringwalk_words="walk check trace migrate replay log explain timeline explore schedule live serve dap help"
 
 _uringwalk() {
     local current=$2 word="" option="" files=0 typed=("${COMP_WORDS[@]:1:COMP_CWORD-1}") it

@@ -1,6 +1,8 @@
 -- The jobs that a command line describes.
-use Rattle.std.specs.Prelude.{◌≡◌, ◌≤◌, ◌+◌, ℕ, Option, Some, None, IsSomeAnd}
+use Rattle.std.specs.Prelude.{◌≡◌, ◌≤◌, ◌+◌, ℕ, Option, Some, None, IsSomeAnd, length}
 use Rattle.command_line.specs.declared.task.Exploration.{Exploration}
+use Rattle.command_line.specs.declared.task.ReportForm.{ReportForm}
+use Rattle.command_line.specs.declared.task.ReportForm.TheVariants.{Text, Json, Sarif}
 use Rattle.command_line.specs.declared.task.Job.{Job}
 use Rattle.command_line.specs.declared.task.Job.TheVariants.{Walk, Replay, Log, Check, Explain, Timeline, Explore, Schedule, Live, Serve, Dap, Trace, Migrate}
 
@@ -10,7 +12,7 @@ LosesScript (Walk script) = ⊥
 LosesScript (Replay trace) = ⊥
 LosesScript (Log run from to) = ⊥
 LosesScript (Check script) = ⊥
-LosesScript (Explain runs kinds allowed json) = ⊥
+LosesScript (Explain runs kinds allowed form) = ⊥
 LosesScript (Timeline run out from to) = ⊥
 LosesScript (Explore search) = IsSomeAnd search.out (λ out. out.now ≡ search.script.now)
 LosesScript (Schedule script trace out) = out.now ≡ script.now
@@ -44,9 +46,15 @@ AreThreads (Some threads) = (1 ≤ threads) × (threads ≤ 64)
 abbrev pub IsSearch : Exploration → Type 0
 IsSearch search = AreRuns search.runs search.first search.events × AreThreads search.threads
 
--- Each number of a live run, a server or a search is in its range.
+-- The number of runs of a report: one of a SARIF log.
+abbrev pub AreReported : ReportForm → ℕ → Type 0
+AreReported Sarif runs = runs ≤ 1
+AreReported form runs = Unit {0}
+
+-- Each number of a live run, a server or a search is in its range, and so is that of a report's runs.
 abbrev pub IsInRange : Job → Type 0
 IsInRange (Live script turns kernel out) = AreInRange turns kernel
 IsInRange (Serve script port turns kernel clients) = AreInRange turns kernel × AreClients port clients
 IsInRange (Explore search) = IsSearch search
+IsInRange (Explain runs kinds allowed form) = AreReported form (length runs.items)
 IsInRange job = Unit {0}

@@ -7,5 +7,5 @@ mod version;
 mod words;
 
 pub use table::KINDS;
-pub use task::{Exploration, Form, Job};
+pub use task::{Exploration, Form, Job, ReportForm};
 pub use words::job;

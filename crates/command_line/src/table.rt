@@ -41,6 +41,8 @@ pub enum Shape {
     Kind(&'static str),
     /// This option without a value.
     Flag(&'static str),
+    /// The option `--sarif`, in place of `--json`.
+    Sarif,
 }
 
 /// An argument or an option of a command.
@@ -176,6 +178,7 @@ pub const OPTIONS: &str = "Options of the commands:
   explain   --kind <KIND>   Report only findings of this kind, default all; may be repeated
             --allow <KIND>  Don't count faults of this kind for the status; may be repeated
             --json          Print the findings as JSON, default text
+            --sarif         Print the findings of one RUN as a SARIF log
   timeline  --from <M>      First event to draw: 0 to 4294967295, default 0
             --to <N>        Event to stop before: 0 to 4294967295, default all
   explore   --kind <KIND>   Look for this kind alone, default all faults but failed and short; may be repeated
@@ -316,6 +319,11 @@ const REPORT_WORDS: &[Word] = &[
                 name: "json",
                 help: "Print the findings as JSON, default text",
                 shape: Shape::Flag("json"),
+            },
+            Operand {
+                name: "sarif",
+                help: "Print the findings of one RUN as a SARIF log",
+                shape: Shape::Sarif,
             },
         ],
     },

@@ -9,6 +9,15 @@ pub enum Form {
     Whole,
 }
 
+/// The form of the report of `explain`.
+#[derive(Clone, Copy)]
+pub enum ReportForm {
+    Text,
+    Json,
+    /// A SARIF log.
+    Sarif,
+}
+
 /// The words of `explore`.
 #[derive(Drop)]
 pub struct Exploration<'a> {
@@ -54,13 +63,13 @@ pub enum Job<'a> {
     Check(&'a str),
     /// Prints the findings in the run of each of some scripts and traces.
     Explain {
-        /// At least one.
+        /// At least one. A SARIF log is about one.
         runs: Vec<&'a str>,
         /// The names of the kinds to print, or none to print all.
         kinds: Vec<&'a str>,
         /// The names of the kinds whose faults don't change the exit status.
         allowed: Vec<&'a str>,
-        json: bool,
+        form: ReportForm,
     },
     /// Draws the events of a script or a trace from number `from` up to, not including, number
     /// `to`, into the file `out`.

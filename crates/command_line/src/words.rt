@@ -1,11 +1,11 @@
 //! Reads the words of the command line.
 ghost use Rattle.std.specs.Prelude.{◌↔◌, IsTrue, IfOk, IfNone};
-ghost use Rattle.command_line.specs.Jobs.{LosesScript, IsInRange, AreInRange, AreClients, AreRuns, AreThreads};
+ghost use Rattle.command_line.specs.Jobs.{LosesScript, IsInRange, AreInRange, AreClients, AreReported, AreRuns, AreThreads};
 
 use crate::table::{
     FORMS, KINDS, OPTIONS, Operand, Shape, Verb, Word, file_words, report_words, thread_words,
 };
-use crate::task::{Exploration, Form, Job};
+use crate::task::{Exploration, Form, Job, ReportForm};
 use crate::version::VERSION;
 use clap::error::ErrorKind;
 use clap::{Arg, ArgAction, ArgMatches, Command, Error, value_parser};
@@ -66,6 +66,8 @@ const BEYOND_EVENTS: &str = "invalid value for '--events <M>': it must be 1 to 6
 
 const BEYOND_THREADS: &str = "invalid value for '--threads <T>': it must be 1 to 64";
 
+const SEVERAL_RUNS: &str = "'--sarif' takes one RUN";
+
 // Returns an operand as clap's argument.
 fn arg_of<'a>(alloc: Global, operand: &'a Operand) -> Result<Arg<'a>, AllocError> {
     let arg = Arg::new(alloc, operand.name).help(operand.help);
@@ -94,6 +96,10 @@ fn arg_of<'a>(alloc: Global, operand: &'a Operand) -> Result<Arg<'a>, AllocError
             .hide_possible_values(word != "kind")
             .action(ArgAction::Append),
         Shape::Flag(word) => arg.long(word).action(ArgAction::SetTrue),
+        Shape::Sarif => arg
+            .long("sarif")
+            .action(ArgAction::SetTrue)
+            .conflicts_with("json")?,
         Shape::Seed => arg
             .long("seed")
             .value_parser(value_parser!(u64))
@@ -125,6 +131,16 @@ fn form_of(matches: &ArgMatches<'_>) -> Form {
     match text_of(matches, "FORM") {
         "1" => Form::Events,
         _ => Form::Whole,
+    }
+}
+
+fn report_form_of(matches: &ArgMatches<'_>) -> ReportForm {
+    if matches.get_flag("sarif") {
+        ReportForm::Sarif
+    } else if matches.get_flag("json") {
+        ReportForm::Json
+    } else {
+        ReportForm::Text
     }
 }
 
@@ -166,7 +182,7 @@ fn explain_of<'a>(alloc: Global, matches: &ArgMatches<'a>) -> Result<Job<'a>, Al
         runs: texts_of(alloc, matches, "RUN")?,
         kinds: texts_of(alloc, matches, "KIND")?,
         allowed: texts_of(alloc, matches, "ALLOWED")?,
-        json: matches.get_flag("json"),
+        form: report_form_of(matches),
     })
 }
 
@@ -344,6 +360,16 @@ fn threads_out_of_range(threads: Option<u32>) -> Option<&'static str>
     }
 }
 
+// Returns what is wrong with the number of runs of a report, as text, if there are too many.
+fn runs_beyond_form(runs: usize, form: ReportForm) -> Option<&'static str>
+    ensures { IfNone result (AreReported form runs) }
+{
+    match form {
+        ReportForm::Sarif if runs > 1 => Some(SEVERAL_RUNS),
+        _ => None,
+    }
+}
+
 // Returns the range of the number of a job that is out of its range, as text.
 fn out_of_range(job: &Job<'_>) -> Option<&'static str>
     ensures { IfNone result (IsInRange job.now) }
@@ -366,6 +392,7 @@ fn out_of_range(job: &Job<'_>) -> Option<&'static str>
                 None => threads_out_of_range(search.threads),
             }
         }
+        Job::Explain { runs, form, .. } => runs_beyond_form(runs.len(), *form),
         _ => None,
     }
 }

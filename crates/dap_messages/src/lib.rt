@@ -9,6 +9,7 @@ mod fault;
 mod field;
 mod found;
 mod items;
+mod members;
 mod reading;
 mod request;
 mod text;

@@ -1,6 +1,6 @@
 -- The bodies of responses as JSON: "Thread", "Scope", "Variable" and "StackFrame" of the Debug
 -- Adapter Protocol's specification.
-use Rattle.std.specs.Prelude.{ℕ, ◌-◌, List, [], map, codes, decimal, true, false, Bool, if◌then◌else◌, nat_lt, Option, Some, None, is_some}
+use Rattle.std.specs.Prelude.{ℕ, ◌-◌, List, map, codes, decimal, true, false, Bool, if◌then◌else◌, nat_lt, Option, Some, None, is_some}
 use Rattle.std.specs.Option.{option_map_or}
 use Rattle.std.specs.Str.Lossy.{utf8_lossy}
 use Rattle.places.specs.declared.place.Place.{Place}

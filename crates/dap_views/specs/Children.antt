@@ -1,8 +1,10 @@
 -- The children of containers.
-use Rattle.std.specs.Prelude.{ℕ, ◌+◌, min, List, [], ◌∷◌, ◌++◌, length, map, filter, slice_get, Bool, true, false, is_some, if◌then◌else◌, Option, Some, None}
+use Rattle.std.specs.Prelude.{ℕ, ◌+◌, min, List, [], ◌∷◌, ◌++◌, length, map, slice_get, Bool, true, false, is_some, if◌then◌else◌, Option, Some}
 use Rattle.std.specs.List.{range_with_len}
 use Rattle.std.specs.Option.{option_map_or}
 use Rattle.places.specs.View.{View}
+use Rattle.places.specs.declared.listed.Listed.{Listed}
+use Rattle.places.specs.declared.listed.Listed.TheVariants as listed
 use Rattle.places.specs.declared.object.Contents.{Contents}
 use Rattle.places.specs.declared.object.Contents.TheVariants as contents
 use Rattle.places.specs.declared.object.Object.{Object}
@@ -21,7 +23,7 @@ use Rattle.dap_views.specs.Requests.{fields}
 use Rattle.dap_views.specs.declared.children.Child.{Child}
 use Rattle.dap_views.specs.declared.children.Child.TheVariants as child
 use Rattle.dap_views.specs.declared.container.Container.{Container}
-use Rattle.dap_views.specs.declared.container.Container.TheVariants.{Thread, Rings, Requests, Objects, Memory, Changes, Findings, Array, Entries, Completions, Backlog, Request, Object as ObjectOf, Descriptor, File, Durable, Pipe}
+use Rattle.dap_views.specs.declared.container.Container.TheVariants.{Thread, Rings, Requests, Objects, Memory, Array, Entries, Completions, Backlog, Request, Object as ObjectOf, Descriptor, File, Durable, Pipe}
 
 -- ---- Numbered children
 
@@ -63,6 +65,11 @@ capacity_in _ = 0
 abbrev pub capacity_of : Setup → ℕ → ℕ
 capacity_of s o = option_map_or (λ (x : Object). capacity_in x.contents) (slice_get s.objects o) 0
 
+-- How many requests there are, and how many completions have overflowed.
+abbrev pub listed_count : Machine → Listed → ℕ
+listed_count m listed.Requests = length m.table
+listed_count m listed.Overflowed = length m.backlog.items
+
 -- How many there are.
 abbrev pub count_of : Setup → Machine → Container → ℕ
 count_of s m Requests = length m.table
@@ -91,21 +98,23 @@ abbrev pub thread_places : EditorThread → List Place
 thread_places (thread.Thread t) =
     place.ProgramCounter t ∷ place.ThreadStage t ∷ place.Last t ∷ place.Got t ∷ []
 thread_places thread.Poller = place.PollerStage ∷ []
-thread_places _ = place.Clock ∷ place.Counted ∷ []
+thread_places thread.Run = place.Clock ∷ place.Counted ∷ []
+thread_places thread.Kernel = place.Clock ∷ place.Counted ∷ []
 
-abbrev pub ring_places : List Place
-ring_places =
-    place.SubmissionHead ∷ place.SubmissionTail ∷ place.SubmissionFlags ∷ place.SubmissionDropped
-    ∷ place.CompletionHead ∷ place.CompletionTail ∷ place.BacklogFront ∷ []
+abbrev pub ring_children : List Child
+ring_children =
+    of_places (place.SubmissionHead ∷ place.SubmissionTail ∷ place.SubmissionFlags
+    ∷ place.SubmissionDropped ∷ place.CompletionHead ∷ place.CompletionTail ∷ place.BacklogFront ∷ [])
+    ++ of_containers (Array ∷ Entries ∷ Completions ∷ Backlog ∷ [])
 
-abbrev pub ring_containers : List Container
-ring_containers = Array ∷ Entries ∷ Completions ∷ Backlog ∷ []
+-- The objects, at most 32.
+abbrev pub object_list : Setup → List Child
+object_list s = map (λ o. child.Nested (ObjectOf o)) (range_with_len 0 (min (length s.objects) 32))
 
--- The objects, at most 32, and the descriptors from number 3 on, at most 64.
-abbrev pub object_containers : Setup → List Container
-object_containers s =
-    map ObjectOf (range_with_len 0 (min (length s.objects) 32))
-    ++ map Descriptor (range_with_len 3 (min (length s.fds) 64))
+-- The descriptors, at most 64, which are numbered from 3.
+abbrev pub descriptor_list : Setup → List Child
+descriptor_list s =
+    map (λ i. child.Nested (Descriptor (3 + i))) (range_with_len 0 (min (length s.fds) 64))
 
 abbrev pub contents_children : ℕ → Contents → List Child
 contents_children o (contents.File bytes) =
@@ -119,18 +128,20 @@ abbrev pub object_children : Setup → ℕ → List Child
 object_children s o =
     option_map_or (λ (x : Object). contents_children o x.contents) (slice_get s.objects o) []
 
+abbrev pub if_present : View → Place → List Child
+if_present v p = if is_some (v p) then child.Place p ∷ [] else []
+
 -- A descriptor is open or closed, and one of a file has a position.
-abbrev pub descriptor_places : View → ℕ → List Place
-descriptor_places v f =
-    filter (λ p. is_some (v p)) (place.OpenMark f ∷ place.Position f ∷ [])
+abbrev pub descriptor_children : View → ℕ → List Child
+descriptor_children v f = if_present v (place.OpenMark f) ++ if_present v (place.Position f)
 
 abbrev pub named_children : Setup → Machine → Container → List Child
 named_children s m (Thread t) = of_places (thread_places t)
-named_children s m Rings = of_places ring_places ++ of_containers ring_containers
-named_children s m Objects = of_containers (object_containers s)
+named_children s m Rings = ring_children
+named_children s m Objects = object_list s ++ descriptor_list s
 named_children s m (Request r) = map (child.Field r) fields
 named_children s m (ObjectOf o) = object_children s o
-named_children s m (Descriptor f) = of_places (descriptor_places (view m) f)
+named_children s m (Descriptor f) = descriptor_children (view m) f
 named_children s m _ = []
 
 -- ---- All

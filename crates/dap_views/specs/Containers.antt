@@ -1,5 +1,5 @@
 -- Containers of variables, and their references.
-use Rattle.std.specs.Prelude.{ℕ, zero, suc, ◌+◌, ◌*◌, ◌/◌, ◌%◌, ◌-◌, ◌==◌, ◌^◌, nat_lt, List, [], ◌∷◌, slice_get, if◌then◌else◌, Option, Some, None}
+use Rattle.std.specs.Prelude.{ℕ, ◌+◌, ◌-◌, ◌*◌, ◌/◌, ◌%◌, ◌==◌, ◌||◌, nat_lt, List, [], ◌∷◌, slice_get, if◌then◌else◌, Option, Some, None}
 use Rattle.std.specs.Option.{option_and_then}
 use Rattle.stops.specs.declared.steps.EditorThread.TheVariants.{Run, Thread as ThreadNumbered, Poller, Kernel}
 use Rattle.dap_views.specs.declared.container.Container.{Container}
@@ -56,7 +56,8 @@ abbrev pub container_at : ℕ → ℕ → Option Container
 container_at k n =
     option_and_then (λ c. if number_of c == n then Some c else None) (slice_get (containers n) k)
 
--- The container with a reference.
+-- The container with a reference, which is below 2 ^ 31.
 unfoldable pub container_of : ℕ → Option Container
-container_of zero = None
-container_of (suc r) = if nat_lt r (2 ^ 31 - 1) then container_at (r / 65536) (r % 65536) else None
+container_of r =
+    if (r == 0) || nat_lt 2147483647 r then None
+    else container_at ((r - 1) / 65536) ((r - 1) % 65536)

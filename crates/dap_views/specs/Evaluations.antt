@@ -1,5 +1,5 @@
 -- The values of expressions.
-use Rattle.std.specs.Prelude.{ℕ, List, ◌++◌, codes, decimal, if◌then◌else◌, Option, Some, None, option_map, Result, Ok, Err}
+use Rattle.std.specs.Prelude.{ℕ, List, ◌++◌, codes, decimal, if◌then◌else◌, Option, Some, None, option_map, Result, Ok}
 use Rattle.std.specs.Str.{bytes_eq}
 use Rattle.places.specs.declared.place.Place.{Place}
 use Rattle.scenario.specs.declared.setup.Setup.{Setup}

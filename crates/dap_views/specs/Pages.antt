@@ -1,5 +1,5 @@
 -- Pages of the variables of a container.
-use Rattle.std.specs.Prelude.{ℕ, ◌-◌, ◌==◌, nat_lt, List, [], ◌∷◌, ◌++◌, length, take, drop, codes, decimal, not, Bool, false, if◌then◌else◌}
+use Rattle.std.specs.Prelude.{◌≡◌, ℕ, ◌-◌, ◌==◌, nat_lt, List, [], ◌∷◌, ◌++◌, length, take, drop, codes, decimal, not, Bool, true, false, if◌then◌else◌}
 use Rattle.dap_messages.specs.declared.request.Filter.{Filter}
 use Rattle.dap_messages.specs.declared.request.Filter.TheVariants.{All, Named, Indexed}
 use Rattle.dap_views.specs.Children.{is_indexed}
@@ -23,14 +23,21 @@ more n = plain_variable (codes "..") (decimal n ++ codes " more")
 abbrev pub rest_of : ℕ → List Variable
 rest_of n = if nat_lt 0 n then more n ∷ [] else []
 
--- The first 256 variables, and how many more there are.
-abbrev pub first_ones : List Variable → List Variable
-first_ones vs = take 256 vs ++ rest_of (length vs - 256)
+-- How many variables a page has at most: as many as it requests, or else 256.
+abbrev pub most_on : Page → ℕ
+most_on p = if p.count == 0 then 256 else p.count
 
--- The variables on a page: as many as it requests, or else the first ones.
+-- How many of n variables a page that requests no number leaves out.
+abbrev pub left_out : Page → ℕ → ℕ
+left_out p n = if p.count == 0 then n - 256 else 0
+
+-- The variables on a page, and how many it leaves out.
 abbrev pub page_of : Page → List Variable → List Variable
-page_of p vs = if p.count == 0 then first_ones (drop p.start vs) else take p.count (drop p.start vs)
+page_of p vs =
+    take (most_on p) (drop p.start vs) ++ rest_of (left_out p (length (drop p.start vs)))
 
--- The variables of a container on a page.
-unfoldable pub on_page : Container → Page → List Variable → List Variable
-on_page c p vs = page_of p (if excludes p.filter c then [] else vs)
+-- The variables of a container on a page, of those that `AreAll` says, unless the filter leaves
+-- them out.
+abbrev pub IsPage : Bool → (List Variable → Type 0) → Page → List Variable → Type 0
+IsPage true AreAll p vs = vs ≡ []
+IsPage false AreAll p vs = (all : List Variable) × AreAll all × (vs ≡ page_of p all)

@@ -18,8 +18,8 @@ scope_name Changes = codes "Changes"
 scope_name Findings = codes "Findings"
 scope_name _ = []
 
--- Whether an editor shall not open a scope unless it is asked to: the findings are searched for
--- when they are first needed.
+-- Whether an editor opens a scope only on request. The findings are searched for when they are
+-- first needed.
 abbrev pub is_expensive : Container → Bool
 is_expensive Findings = true
 is_expensive _ = false

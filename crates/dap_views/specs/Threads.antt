@@ -1,5 +1,5 @@
 -- The threads that an editor shows.
-use Rattle.std.specs.Prelude.{ℕ, ◌+◌, ◌-◌, ◌==◌, ◌&&◌, min, nat_le, nat_lt, List, [], ◌∷◌, ◌++◌, length, map, codes, decimal, if◌then◌else◌, Option, Some, None}
+use Rattle.std.specs.Prelude.{◌≡◌, ℕ, ◌<◌, true, ◌+◌, ◌-◌, ◌==◌, ◌&&◌, min, nat_le, nat_lt, List, [], ◌∷◌, ◌++◌, length, map, codes, decimal, if◌then◌else◌, Option, Some, None}
 use Rattle.std.specs.List.{range_with_len}
 use Rattle.scenario.specs.declared.setup.Setup.{Setup}
 use Rattle.stops.specs.declared.steps.EditorThread.{EditorThread}
@@ -37,6 +37,13 @@ thread_of s id =
     else if s.sqpoll && id == poller_id s then Some Poller
     else if id == kernel_id s then Some Kernel
     else None
+
+-- Whether a setup has a thread.
+abbrev pub HasThread : Setup → EditorThread → Type 0
+HasThread s Run = Unit {0}
+HasThread s (Thread t) = t < thread_count s
+HasThread s Poller = s.sqpoll ≡ true
+HasThread s Kernel = Unit {0}
 
 abbrev pub thread_name : EditorThread → List ℕ
 thread_name Run = codes "run"

@@ -1,7 +1,6 @@
 -- Variables: what an editor shows of the children of containers.
-use Rattle.std.specs.Prelude.{◌≡◌, ℕ, zero, suc, ◌-◌, List, [], ◌∷◌, ◌++◌, length, map, filter, slice_get, codes, decimal, string_bytes, nat_lt, ◌||◌, ◌==◌, Bool, Option, Some, None}
+use Rattle.std.specs.Prelude.{◌≡◌, ℕ, ◌-◌, ◌<◌, List, [], ◌++◌, length, map, filter, slice_get, codes, decimal, string_bytes, nat_lt, ◌||◌, ◌==◌, Bool, Option, Some, None}
 use Rattle.std.specs.Option.{option_map_or}
-use Rattle.entries.specs.declared.row.Row.{Row}
 use Rattle.places.specs.View.{Exact}
 use Rattle.places.specs.declared.object.Contents.{Contents}
 use Rattle.places.specs.declared.object.Contents.TheVariants as contents
@@ -115,15 +114,13 @@ row_variable s ds =
     plain_variable (row_place s ds) (olds_text ds ++ (codes " -> " ++ news_text ds))
 
 -- The changes of the event before the position: exactly the places whose values it changed.
-abbrev pub ListsChanges : Walk → ℕ → List Changed → Type 0
-ListsChanges w zero ds = ds ≡ []
-ListsChanges w (suc before) ds =
-    (past : List Change) × Exact (view (moment w.setup w.events before)) (view (here w)) past
-    × IsListing (view (here w)) past ds
+pub record ListsChanges (w : Walk) (ds : List Changed) : Type 0 where
+  pub none : w.at ≡ 0 → ds ≡ []
+  pub all : 0 < w.at → (past : List Change) × Exact (view (moment w.setup w.events (w.at - 1))) (view (here w)) past × IsListing (view (here w)) past ds
 
 pub record AreChanges (w : Walk) (vs : List Variable) : Type 0 where
   pub changes : List Changed
-  pub listed : ListsChanges w w.at changes
+  pub listed : ListsChanges w changes
   pub lines : vs ≡ map (row_variable w.setup) (rows changes)
 
 -- ---- Findings

@@ -1,14 +1,13 @@
 //! The bodies of responses as JSON, in the protocol's member names.
 ghost use Rattle.std.specs.Prelude.{◌≡◌, IfOk, OnOk, map};
 ghost use Rattle.serde_json.specs.View.{members_view, view};
-ghost use Rattle.inverse_log.specs.Walks.{here};
 ghost use Rattle.dap_views.specs.Bodies.{evaluate_body, is_byte, list_body, scope_data, scopes_body, thread_data, threads_body, variable_data, variables_body, with_children, with_expression, with_indexed, with_memory};
 
 use crate::container::{Container, reference_of};
 use crate::counts::count_of;
+use crate::editor_threads::{thread_id, thread_name, threads};
 use crate::json::{Members, put_list, put_member, put_number, put_text};
-use crate::scopes::{is_expensive, scope_name, scopes};
-use crate::threads::{thread_id, thread_name, threads};
+use crate::scope::{is_expensive, scope_name, scopes};
 use crate::variable::Variable;
 use inverse_log::Walker;
 use machine::{Setup, State};
@@ -17,6 +16,7 @@ use serde_json::{Map, Value};
 use std::alloc::{AllocError, Global};
 use stops::EditorThread;
 
+#[tactic(auto, unfolding(crate::specs::Bodies::thread_data))]
 fn thread_value(alloc: Global, setup: &Setup, thread: EditorThread) -> Result<Value, AllocError>
     ensures { IfOk result (λ v. view v ≡ thread_data setup.now thread) }
 {
@@ -32,6 +32,7 @@ fn thread_value(alloc: Global, setup: &Setup, thread: EditorThread) -> Result<Va
 }
 
 // Returns an object with one list.
+#[tactic(auto, unfolding(crate::specs::Bodies::list_body))]
 fn list_value(alloc: Global, name: &str, list: Vec<Value>) -> Result<Value, AllocError>
     ensures { IfOk result (λ v. view v ≡ list_body name.now (map view list.items)) }
 {
@@ -41,16 +42,19 @@ fn list_value(alloc: Global, name: &str, list: Vec<Value>) -> Result<Value, Allo
 }
 
 /// Returns the body of the response to `threads`.
+#[tactic(auto, unfolding(crate::specs::Bodies::threads_body))]
 pub fn threads_body(alloc: Global, setup: &Setup) -> Result<Value, AllocError>
     ensures { IfOk result (λ v. view v ≡ threads_body setup.now) }
 {
     let mut list = Vec::new(alloc);
-    for thread in threads(alloc, setup)?.as_slice() {
+    let all = threads(alloc, setup)?;
+    for thread in all.as_slice() {
         list.push(thread_value(alloc, setup, *thread)?)?;
     }
     list_value(alloc, "threads", list)
 }
 
+#[tactic(auto, unfolding(crate::specs::Bodies::scope_data))]
 fn scope_value(
     alloc: Global,
     setup: &Setup,
@@ -78,6 +82,7 @@ fn scope_value(
 }
 
 // Adds how many numbered children there are, if there are some.
+#[tactic(auto, unfolding(crate::specs::Bodies::with_indexed))]
 fn put_indexed(alloc: Global, members: &mut Members, indexed: u32) -> Result<(), AllocError>
     ensures { OnOk result (members_view members.new.entries
         ≡ with_indexed indexed (members_view members.old.entries)) }
@@ -89,6 +94,7 @@ fn put_indexed(alloc: Global, members: &mut Members, indexed: u32) -> Result<(),
 }
 
 /// Returns the body of the response to `scopes` for the frame of a thread.
+#[tactic(auto, unfolding(crate::specs::Bodies::scopes_body))]
 pub fn scopes_body(
     alloc: Global,
     walker: &Walker,
@@ -96,9 +102,10 @@ pub fn scopes_body(
 ) -> Result<Value, AllocError>
     ensures { IfOk result (λ v. view v ≡ scopes_body walker.now thread) }
 {
+    let all = scopes(thread);
     let mut list = Vec::new(alloc);
-    for scope in scopes(thread) {
-        list.push(scope_value(alloc, walker.setup(), walker.state(), scope)?)?;
+    for scope in &all {
+        list.push(scope_value(alloc, walker.setup(), walker.state(), *scope)?)?;
     }
     list_value(alloc, "scopes", list)
 }
@@ -116,6 +123,7 @@ fn is_byte(place: Place) -> bool
 }
 
 // Adds the reference of a variable's children, or 0.
+#[tactic(auto, unfolding(crate::specs::Bodies::with_children))]
 fn put_children(alloc: Global, members: &mut Members, variable: &Variable) -> Result<(), AllocError>
     ensures { OnOk result (members_view members.new.entries
         ≡ with_children variable.now (members_view members.old.entries)) }
@@ -129,6 +137,7 @@ fn put_children(alloc: Global, members: &mut Members, variable: &Variable) -> Re
 }
 
 // Adds the name of a variable's place, if it has one.
+#[tactic(auto, unfolding(crate::specs::Bodies::with_expression))]
 fn put_expression(
     alloc: Global,
     members: &mut Members,
@@ -144,6 +153,7 @@ fn put_expression(
 }
 
 // Adds the reference of the memory of a byte, which is the name of its place.
+#[tactic(auto, unfolding(crate::specs::Bodies::with_memory))]
 fn put_memory(alloc: Global, members: &mut Members, variable: &Variable) -> Result<(), AllocError>
     ensures { OnOk result (members_view members.new.entries
         ≡ with_memory variable.now (members_view members.old.entries)) }
@@ -157,6 +167,7 @@ fn put_memory(alloc: Global, members: &mut Members, variable: &Variable) -> Resu
 }
 
 /// Returns a variable as JSON.
+#[tactic(auto, unfolding(crate::specs::Bodies::variable_data))]
 pub fn variable_value(alloc: Global, variable: &Variable) -> Result<Value, AllocError>
     ensures { IfOk result (λ v. view v ≡ variable_data variable.now) }
 {
@@ -170,6 +181,7 @@ pub fn variable_value(alloc: Global, variable: &Variable) -> Result<Value, Alloc
 }
 
 /// Returns the body of the response to `variables`.
+#[tactic(auto, unfolding(crate::specs::Bodies::variables_body))]
 pub fn variables_body(alloc: Global, variables: &[Variable]) -> Result<Value, AllocError>
     ensures { IfOk result (λ v. view v ≡ variables_body variables.now) }
 {
@@ -181,6 +193,7 @@ pub fn variables_body(alloc: Global, variables: &[Variable]) -> Result<Value, Al
 }
 
 /// Returns the body of the response to `evaluate`.
+#[tactic(auto, unfolding(crate::specs::Bodies::evaluate_body))]
 pub fn evaluate_body(alloc: Global, variable: &Variable) -> Result<Value, AllocError>
     ensures { IfOk result (λ v. view v ≡ evaluate_body variable.now) }
 {

@@ -1,6 +1,6 @@
 //! What the event before the position changed.
-ghost use Rattle.std.specs.Prelude.{◌≡◌, ◌<◌, ◌++◌, IfOk, OnOk, length, map};
-ghost use Rattle.run_log.specs.Lines.{news_text, olds_text, rows};
+ghost use Rattle.std.specs.Prelude.{◌≡◌, ◌++◌, IfOk, OnOk, codes, map};
+ghost use Rattle.run_log.specs.Lines.{news_text, olds_text, row_place, rows};
 ghost use Rattle.dap_views.specs.Variables.{ListsChanges, row_variable};
 
 use crate::variable::{Variable, plain_variable};
@@ -13,7 +13,7 @@ use stops::record_of;
 
 /// Returns the changes of the event before the position, in the order of places.
 pub(crate) fn changes_at(alloc: Global, walker: &Walker) -> Result<Vec<Changed>, AllocError>
-    ensures { IfOk result (λ list. ListsChanges walker.now walker.now.at list.items) }
+    ensures { IfOk result (λ list. ListsChanges walker.now list.items) }
 {
     let at = walker.at();
     if at == 0 {
@@ -54,19 +54,37 @@ fn put_news(alloc: Global, out: &mut Vec<u8>, row: &[Changed]) -> Result<(), All
     Ok(())
 }
 
+// Returns the place of a line.
+fn place_of(alloc: Global, setup: &Setup, row: &[Changed]) -> Result<Vec<u8>, AllocError>
+    ensures { IfOk result (λ text. text.items ≡ row_place setup.now row.now) }
+{
+    if row.is_empty() {
+        return Ok(Vec::new(alloc));
+    }
+    row_place(alloc, setup, row)
+}
+
+// Returns the old and the new values of a line.
+fn values_of(alloc: Global, row: &[Changed]) -> Result<Vec<u8>, AllocError>
+    ensures { IfOk result (λ text. text.items
+        ≡ olds_text row.now ++ (codes " -> " ++ news_text row.now)) }
+{
+    let mut text = Vec::new(alloc);
+    put_olds(alloc, &mut text, row)?;
+    text.extend_from_slice(b" -> ")?;
+    put_news(alloc, &mut text, row)?;
+    Ok(text)
+}
+
 /// Returns the variable of a line: its place, and its old and new values.
 pub(crate) fn row_variable(
     alloc: Global,
     setup: &Setup,
     row: &[Changed],
 ) -> Result<Variable, AllocError>
-    requires { 0 < length row.now }
     ensures { IfOk result (λ v. v ≡ row_variable setup.now row.now) }
 {
-    let name = row_place(alloc, setup, row)?;
-    let mut value = Vec::new(alloc);
-    put_olds(alloc, &mut value, row)?;
-    value.extend_from_slice(b" -> ")?;
-    put_news(alloc, &mut value, row)?;
+    let name = place_of(alloc, setup, row)?;
+    let value = values_of(alloc, row)?;
     Ok(plain_variable(Items::from_vec(name), Items::from_vec(value)))
 }

@@ -1,15 +1,13 @@
 //! The children of containers other than changes and findings.
-ghost use Rattle.std.specs.Prelude.{◌≡◌, ◌-◌, ◌++◌, ◌≤◌, ◌∷◌, [], IfOk, OnOk, map, min};
-ghost use Rattle.places.specs.declared.place.Place.TheVariants.{DurableLength, FileLength, PutCount, TakenCount};
+ghost use Rattle.std.specs.Prelude.{◌≡◌, ◌-◌, ◌++◌, ◌≤◌, IfOk, OnOk, map, min};
 ghost use Rattle.machine.specs.Whole.{view};
-ghost use Rattle.dap_views.specs.Children.{contents_children, descriptor_places, named_children, numbered_children, object_children, object_containers, of_containers, of_places, ring_containers, ring_places, thread_places};
+ghost use Rattle.dap_views.specs.Children.{contents_children, descriptor_children, descriptor_list, if_present, named_children, numbered_children, object_children, object_list, of_places, ring_children, thread_places};
 ghost use Rattle.dap_views.specs.Requests.{fields};
-ghost use Rattle.dap_views.specs.declared.children.Child.{Child};
-ghost use Rattle.dap_views.specs.declared.container.Container.TheVariants.{Durable, File, Pipe};
+ghost use Rattle.dap_views.specs.declared.children.Child.TheVariants as child;
 
 use crate::container::Container;
 use crate::counts::place_in;
-use crate::requests::{FIELDS, RequestField};
+use crate::requests::RequestField;
 use machine::{Setup, State};
 use places::{Contents, Place};
 use std::alloc::{AllocError, Global};
@@ -34,81 +32,44 @@ pub(crate) enum Child {
     Field(u32, RequestField),
 }
 
-fn add_places(list: &mut Vec<Child>, places: &[Place]) -> Result<(), AllocError>
-    ensures { OnOk result (list.new.items ≡ list.old.items ++ of_places places.now) }
-{
-    for place in places {
-        list.push(Child::Place(*place))?;
-    }
-    Ok(())
-}
-
-fn add_nested(list: &mut Vec<Child>, containers: &[Container]) -> Result<(), AllocError>
-    ensures { OnOk result (list.new.items ≡ list.old.items ++ of_containers containers.now) }
-{
-    for container in containers {
-        list.push(Child::Nested(*container))?;
-    }
-    Ok(())
-}
-
 fn of_thread(alloc: Global, thread: EditorThread) -> Result<Vec<Child>, AllocError>
     ensures { IfOk result (λ list. list.items ≡ of_places (thread_places thread)) }
 {
-    let mut list = Vec::new(alloc);
     match thread {
-        EditorThread::Thread(number) => add_places(
-            &mut list,
+        EditorThread::Thread(number) => Vec::from_slice(
+            alloc,
             &[
-                Place::ProgramCounter(number),
-                Place::ThreadStage(number),
-                Place::Last(number),
-                Place::Got(number),
+                Child::Place(Place::ProgramCounter(number)),
+                Child::Place(Place::ThreadStage(number)),
+                Child::Place(Place::Last(number)),
+                Child::Place(Place::Got(number)),
             ],
-        )?,
-        EditorThread::Poller => add_places(&mut list, &[Place::PollerStage])?,
-        _ => add_places(&mut list, &[Place::Clock, Place::Counted])?,
+        ),
+        EditorThread::Poller => Vec::from_slice(alloc, &[Child::Place(Place::PollerStage)]),
+        EditorThread::Run | EditorThread::Kernel => Vec::from_slice(
+            alloc,
+            &[Child::Place(Place::Clock), Child::Place(Place::Counted)],
+        ),
     }
-    Ok(list)
 }
 
 fn of_rings(alloc: Global) -> Result<Vec<Child>, AllocError>
-    ensures { IfOk result (λ list. list.items
-        ≡ of_places ring_places ++ of_containers ring_containers) }
+    ensures { IfOk result (λ list. list.items ≡ ring_children) }
 {
-    let mut list = Vec::new(alloc);
-    let words = [
-        Place::SubmissionHead,
-        Place::SubmissionTail,
-        Place::SubmissionFlags,
-        Place::SubmissionDropped,
-        Place::CompletionHead,
-        Place::CompletionTail,
-        Place::BacklogFront,
+    let children = [
+        Child::Place(Place::SubmissionHead),
+        Child::Place(Place::SubmissionTail),
+        Child::Place(Place::SubmissionFlags),
+        Child::Place(Place::SubmissionDropped),
+        Child::Place(Place::CompletionHead),
+        Child::Place(Place::CompletionTail),
+        Child::Place(Place::BacklogFront),
+        Child::Nested(Container::Array),
+        Child::Nested(Container::Entries),
+        Child::Nested(Container::Completions),
+        Child::Nested(Container::Backlog),
     ];
-    add_places(&mut list, &words)?;
-    let nested = [
-        Container::Array,
-        Container::Entries,
-        Container::Completions,
-        Container::Backlog,
-    ];
-    add_nested(&mut list, &nested)?;
-    Ok(list)
-}
-
-fn of_objects(alloc: Global, setup: &Setup) -> Result<Vec<Child>, AllocError>
-    ensures { IfOk result (λ list. list.items ≡ of_containers (object_containers setup.now)) }
-{
-    let mut list = Vec::new(alloc);
-    for number in 0..count_to(setup.objects.len(), MOST_OBJECTS) {
-        list.push(Child::Nested(Container::Object(number)))?;
-    }
-    let end = FIRST_DESCRIPTOR + count_to(setup.fds.len(), MOST_DESCRIPTORS);
-    for number in FIRST_DESCRIPTOR..end {
-        list.push(Child::Nested(Container::Descriptor(number)))?;
-    }
-    Ok(list)
+    Vec::from_slice(alloc, &children)
 }
 
 fn count_to(count: usize, most: u32) -> u32
@@ -118,45 +79,79 @@ fn count_to(count: usize, most: u32) -> u32
     count.min(most as usize) as u32
 }
 
-fn of_request(alloc: Global, number: u32) -> Result<Vec<Child>, AllocError>
-    ensures { IfOk result (λ list. list.items ≡ map (Child.Field number) fields) }
+fn of_objects(alloc: Global, setup: &Setup) -> Result<Vec<Child>, AllocError>
+    ensures { IfOk result (λ list. list.items ≡ object_list setup.now) }
 {
     let mut list = Vec::new(alloc);
-    for field in FIELDS {
-        list.push(Child::Field(number, field))?;
+    for number in 0..count_to(setup.objects.len(), MOST_OBJECTS) {
+        list.push(Child::Nested(Container::Object(number)))?;
     }
     Ok(list)
 }
 
-fn add_file(list: &mut Vec<Child>, number: u32) -> Result<(), AllocError>
-    ensures { OnOk result (list.new.items
-        ≡ list.old.items ++ (of_places (FileLength number ∷ DurableLength number ∷ [])
-        ++ of_containers (File number ∷ Durable number ∷ []))) }
+fn of_descriptors(alloc: Global, setup: &Setup) -> Result<Vec<Child>, AllocError>
+    ensures { IfOk result (λ list. list.items ≡ descriptor_list setup.now) }
 {
-    let places = [Place::FileLength(number), Place::DurableLength(number)];
-    add_places(list, &places)?;
-    add_nested(list, &[Container::File(number), Container::Durable(number)])
+    let mut list = Vec::new(alloc);
+    for number in 0..count_to(setup.fds.len(), MOST_DESCRIPTORS) {
+        let descriptor = FIRST_DESCRIPTOR + number;
+        list.push(Child::Nested(Container::Descriptor(descriptor)))?;
+    }
+    Ok(list)
 }
 
-fn add_pipe(list: &mut Vec<Child>, number: u32) -> Result<(), AllocError>
-    ensures { OnOk result (list.new.items
-        ≡ list.old.items ++ (of_places (PutCount number ∷ TakenCount number ∷ [])
-        ++ of_containers (Pipe number ∷ []))) }
+fn of_world(alloc: Global, setup: &Setup) -> Result<Vec<Child>, AllocError>
+    ensures { IfOk result (λ list. list.items ≡ object_list setup.now ++ descriptor_list setup.now) }
 {
-    add_places(list, &[Place::PutCount(number), Place::TakenCount(number)])?;
-    add_nested(list, &[Container::Pipe(number)])
+    let mut list = of_objects(alloc, setup)?;
+    let descriptors = of_descriptors(alloc, setup)?;
+    list.extend_from_slice(&descriptors)?;
+    Ok(list)
+}
+
+fn of_request(alloc: Global, number: u32) -> Result<Vec<Child>, AllocError>
+    ensures { IfOk result (λ list. list.items ≡ map (child.Field number) fields) }
+{
+    let children = [
+        Child::Field(number, RequestField::Opcode),
+        Child::Field(number, RequestField::Flags),
+        Child::Field(number, RequestField::Descriptor),
+        Child::Field(number, RequestField::Offset),
+        Child::Field(number, RequestField::Address),
+        Child::Field(number, RequestField::Length),
+        Child::Field(number, RequestField::OperationFlags),
+        Child::Field(number, RequestField::UserData),
+        Child::Field(number, RequestField::Chain),
+        Child::Field(number, RequestField::Phase),
+    ];
+    Vec::from_slice(alloc, &children)
 }
 
 fn of_contents(alloc: Global, number: u32, contents: &Contents) -> Result<Vec<Child>, AllocError>
     ensures { IfOk result (λ list. list.items ≡ contents_children number contents.now) }
 {
-    let mut list = Vec::new(alloc);
     match contents {
-        Contents::File(_) => add_file(&mut list, number)?,
-        Contents::Pipe(_) => add_pipe(&mut list, number)?,
-        Contents::EventFd(_) => add_places(&mut list, &[Place::EventCount(number)])?,
+        Contents::File(_) => Vec::from_slice(
+            alloc,
+            &[
+                Child::Place(Place::FileLength(number)),
+                Child::Place(Place::DurableLength(number)),
+                Child::Nested(Container::File(number)),
+                Child::Nested(Container::Durable(number)),
+            ],
+        ),
+        Contents::Pipe(_) => Vec::from_slice(
+            alloc,
+            &[
+                Child::Place(Place::PutCount(number)),
+                Child::Place(Place::TakenCount(number)),
+                Child::Nested(Container::Pipe(number)),
+            ],
+        ),
+        Contents::EventFd(_) => {
+            Vec::from_slice(alloc, &[Child::Place(Place::EventCount(number))])
+        }
     }
-    Ok(list)
 }
 
 fn of_object(alloc: Global, setup: &Setup, number: u32) -> Result<Vec<Child>, AllocError>
@@ -168,17 +163,23 @@ fn of_object(alloc: Global, setup: &Setup, number: u32) -> Result<Vec<Child>, Al
     }
 }
 
+// Adds a place if it is there.
+fn add_present(list: &mut Vec<Child>, state: &State, place: Place) -> Result<(), AllocError>
+    ensures { OnOk result (list.new.items ≡ list.old.items ++ if_present (view state.now) place) }
+{
+    if state.value(place).is_some() {
+        list.push(Child::Place(place))?;
+    }
+    Ok(())
+}
+
 // A descriptor of a file has a position.
 fn of_descriptor(alloc: Global, state: &State, number: u32) -> Result<Vec<Child>, AllocError>
-    ensures { IfOk result (λ list. list.items
-        ≡ of_places (descriptor_places (view state.now) number)) }
+    ensures { IfOk result (λ list. list.items ≡ descriptor_children (view state.now) number) }
 {
     let mut list = Vec::new(alloc);
-    for place in [Place::OpenMark(number), Place::Position(number)] {
-        if state.value(place).is_some() {
-            list.push(Child::Place(place))?;
-        }
-    }
+    add_present(&mut list, state, Place::OpenMark(number))?;
+    add_present(&mut list, state, Place::Position(number))?;
     Ok(list)
 }
 
@@ -195,7 +196,7 @@ pub(crate) fn named_children(
     match container {
         Container::Thread(thread) => of_thread(alloc, thread),
         Container::Rings => of_rings(alloc),
-        Container::Objects => of_objects(alloc, setup),
+        Container::Objects => of_world(alloc, setup),
         Container::Request(number) => of_request(alloc, number),
         Container::Object(number) => of_object(alloc, setup, number),
         Container::Descriptor(number) => of_descriptor(alloc, state, number),

@@ -88,6 +88,7 @@ fn number_of(container: Container) -> u32
 
 /// Returns the reference of a container, which an editor names it by. The number that a container
 /// has, of a thread, a request, an object or a descriptor, is below 65,536.
+#[tactic(auto, unfolding(crate::specs::Containers::reference_of))]
 pub fn reference_of(container: Container) -> u32
     ensures reference { result ≡ reference_of container }
     ensures some { 0 < result }
@@ -135,6 +136,7 @@ fn container_at(kind: u32, number: u32) -> Option<Container>
 }
 
 /// Returns the container with a reference.
+#[tactic(auto, unfolding(crate::specs::Containers::container_of))]
 pub fn container_of(reference: u64) -> Option<Container>
     ensures { result ≡ container_of reference }
 {

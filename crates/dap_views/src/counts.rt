@@ -1,11 +1,10 @@
 //! How many children the containers of places have that are numbered.
 ghost use Rattle.std.specs.Prelude.{◌≡◌, ◌↔◌, ◌≤◌, ◌<◌, IsTrue, length};
-ghost use Rattle.machine.specs.Whole.{view};
-ghost use Rattle.dap_views.specs.Children.{capacity_in, capacity_of, count_of, is_indexed, length_in, place_in};
+ghost use Rattle.dap_views.specs.Children.{capacity_in, capacity_of, count_of, is_indexed, length_in, listed_count, place_in};
 
 use crate::container::Container;
 use machine::{Setup, State};
-use places::{Contents, Place, Value};
+use places::{Contents, Listed, Place, Value};
 use scenario::{completion_entries, ring_size};
 
 /// The bytes of the memory, and the most bytes of a file.
@@ -86,22 +85,6 @@ fn has_request(state: &State, number: u32) -> bool
     state.row(number).is_some()
 }
 
-// Returns how many requests there are.
-fn request_count(state: &State) -> u32
-    ensures { result ≡ length state.now.table }
-{
-    let (mut low, mut high) = (0, MOST_REQUESTS);
-    while low < high {
-        let middle = low + (high - low) / 2;
-        if has_request(state, middle) {
-            low = middle + 1;
-        } else {
-            high = middle;
-        }
-    }
-    low
-}
-
 // Returns whether there is an overflowed completion with a number.
 fn has_overflowed(state: &State, number: u32) -> bool
     ensures there { IsTrue result ↔ (number < length state.now.backlog.items) }
@@ -110,14 +93,28 @@ fn has_overflowed(state: &State, number: u32) -> bool
     state.value(Place::Backlog(number)).is_some()
 }
 
-// Returns how many completions have overflowed.
-fn overflowed_count(state: &State) -> u32
-    ensures { result ≡ length state.now.backlog.items }
+// Returns whether a list has an element with a number.
+fn has(state: &State, list: Listed, number: u32) -> bool
+    ensures there { IsTrue result ↔ (number < listed_count state.now list) }
+    ensures most { listed_count state.now list ≤ 65536 }
 {
-    let (mut low, mut high) = (0, MOST_REQUESTS);
+    match list {
+        Listed::Requests => has_request(state, number),
+        Listed::Overflowed => has_overflowed(state, number),
+    }
+}
+
+// Returns how many elements a list has.
+fn listed_count(state: &State, list: Listed) -> u32
+    ensures { result ≡ listed_count state.now list }
+{
+    if !has(state, list, 0) {
+        return 0;
+    }
+    let (mut low, mut high) = (1, MOST_REQUESTS);
     while low < high {
         let middle = low + (high - low) / 2;
-        if has_overflowed(state, middle) {
+        if has(state, list, middle) {
             low = middle + 1;
         } else {
             high = middle;
@@ -131,8 +128,8 @@ pub(crate) fn count_of(setup: &Setup, state: &State, container: Container) -> u3
     ensures { result ≡ count_of setup.now state.now container }
 {
     match container {
-        Container::Requests => request_count(state),
-        Container::Backlog => overflowed_count(state),
+        Container::Requests => listed_count(state, Listed::Requests),
+        Container::Backlog => listed_count(state, Listed::Overflowed),
         Container::Memory => MOST_BYTES,
         Container::Array | Container::Entries => ring_size(setup.entries),
         Container::Completions => ring_size(completion_entries(setup.entries, setup.cq)),

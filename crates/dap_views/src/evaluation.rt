@@ -10,6 +10,7 @@ use places::{Items, Place};
 use std::alloc::{AllocError, Global};
 
 /// Returns the place that a text names in the words of the command `show`.
+#[tactic(auto, unfolding(crate::specs::Evaluations::place_named))]
 pub fn place_named(alloc: Global, setup: &Setup, text: &str) -> Result<Option<Place>, AllocError>
     ensures { IfOk result (λ place. place ≡ place_named setup.now text.now) }
 {
@@ -31,6 +32,7 @@ fn moment_variable(alloc: Global, at: usize) -> Result<Variable, AllocError>
 
 /// Returns the value of an expression at the position: of a place, in the words of the command
 /// `show`, or of `moment`, which is the position.
+#[tactic(auto, unfolding(crate::specs::Evaluations::evaluation))]
 pub fn evaluate(
     alloc: Global,
     walker: &Walker,

@@ -1,12 +1,12 @@
 //! Frames as JSON, in the protocol's member names.
-ghost use Rattle.std.specs.Prelude.{◌≡◌, IfOk, OnOk, option_map, map};
+ghost use Rattle.std.specs.Prelude.{◌≡◌, IfOk, OnOk, option_map};
 ghost use Rattle.std.specs.Option.{option_to_list};
 ghost use Rattle.serde_json.specs.View.{members_view, view};
-ghost use Rattle.dap_views.specs.Bodies.{counted, frame_data, stack_body, with_end, with_range, with_source, with_start};
+ghost use Rattle.dap_views.specs.Bodies.{counted, frame_data, list_data, stack_body, with_end, with_range, with_source, with_start};
 
+use crate::editor_threads::thread_id;
 use crate::frames::{Frame, SourceRange};
-use crate::json::{Members, put_list, put_member, put_number, put_text};
-use crate::threads::thread_id;
+use crate::json::{Members, put_member, put_number, put_text};
 use dap_messages::InitializeArguments;
 use machine::Setup;
 use serde_json::{Map, Value};
@@ -24,6 +24,7 @@ fn counted(number: usize, from_1: bool) -> u64
 }
 
 // Adds the first line and column. Without a source both are 0.
+#[tactic(auto, unfolding(crate::specs::Bodies::with_start))]
 fn put_start(
     alloc: Global,
     members: &mut Members,
@@ -45,6 +46,7 @@ fn put_start(
 }
 
 // Adds the line and the column of the end, if there is one.
+#[tactic(auto, unfolding(crate::specs::Bodies::with_end))]
 fn put_end(
     alloc: Global,
     members: &mut Members,
@@ -64,6 +66,7 @@ fn put_end(
 }
 
 // Adds where a frame is in its source.
+#[tactic(auto, unfolding(crate::specs::Bodies::with_range))]
 fn put_range(
     alloc: Global,
     members: &mut Members,
@@ -81,6 +84,7 @@ fn put_range(
 }
 
 // Adds the source, and where in it the frame is.
+#[tactic(auto, unfolding(crate::specs::Bodies::with_source))]
 fn put_source(
     alloc: Global,
     members: &mut Members,
@@ -101,6 +105,7 @@ fn put_source(
 }
 
 /// Returns a frame as JSON, with the source that it is in, if there is one.
+#[tactic(auto, unfolding(crate::specs::Bodies::frame_data))]
 pub fn frame_value(
     alloc: Global,
     setup: &Setup,
@@ -125,17 +130,30 @@ pub fn frame_value(
     Ok(Value::Object(members))
 }
 
+// Returns a list of at most one frame.
+#[tactic(auto, unfolding(crate::specs::Bodies::list_data))]
+fn frames_value(alloc: Global, frame: Option<Value>) -> Result<Value, AllocError>
+    ensures { IfOk result (λ v. view v ≡ list_data (option_to_list (option_map view frame))) }
+{
+    let mut list = Vec::new(alloc);
+    match frame {
+        Some(frame) => {
+            list.push(frame)?;
+            Ok(Value::Array(list))
+        }
+        None => Ok(Value::Array(list)),
+    }
+}
+
 /// Returns the body of the response to `stackTrace`: the frame of a thread, or none if it is not on
 /// the requested page.
+#[tactic(auto, unfolding(crate::specs::Bodies::stack_body))]
 pub fn stack_body(alloc: Global, frame: Option<Value>) -> Result<Value, AllocError>
     ensures { IfOk result (λ v. view v ≡ stack_body (option_to_list (option_map view frame))) }
 {
-    let mut list = Vec::new(alloc);
-    if let Some(frame) = frame {
-        list.push(frame)?;
-    }
+    let frames = frames_value(alloc, frame)?;
     let mut members = Map::new(alloc);
-    put_list(alloc, &mut members, "stackFrames", list)?;
+    put_member(alloc, &mut members, "stackFrames", frames)?;
     put_number(alloc, &mut members, "totalFrames", 1)?;
     Ok(Value::Object(members))
 }

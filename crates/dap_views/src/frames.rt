@@ -1,8 +1,10 @@
 //! Frames: what a thread does next.
 ghost use Rattle.std.specs.Prelude.{◌≡◌, ◌-◌, ◌<◌, ◌≤◌, ◌^◌, IfOk, IfSome, length, option_map};
+ghost use Rattle.std.specs.List.{position};
 ghost use Rattle.std.specs.Option.{option_copied};
 ghost use Rattle.places.specs.declared.place.Place.TheVariants.{ProgramCounter};
 ghost use Rattle.machine.specs.Whole.{view};
+ghost use Rattle.stops.specs.StopPoints.{is_event_of};
 ghost use Rattle.dap_views.specs.Frames.{event_name, event_range, frame_of, instruction_at, instruction_name, instruction_range, instruction_text, item_range, line_range, next_event, number_in};
 
 use crate::variable::bytes_of;
@@ -94,6 +96,14 @@ fn instruction_name(
     }
 }
 
+// Returns the index of the first event of a thread.
+fn first_event(events: &[Event], thread: EditorThread) -> Option<usize>
+    ensures value { result ≡ position (is_event_of thread) events.now }
+    ensures within { IfSome result (λ i. i < length events.now) }
+{
+    events.iter().position(|event| is_event_of(thread, *event))
+}
+
 // Returns the index of the next event of a thread.
 fn next_event(events: &[Event], thread: EditorThread, at: usize) -> Option<usize>
     requires { at ≤ length events.now }
@@ -101,9 +111,10 @@ fn next_event(events: &[Event], thread: EditorThread, at: usize) -> Option<usize
     ensures within { IfSome result (λ i. i < length events.now) }
 {
     let after = &events[at..];
-    let near = &after[..after.len().min(AHEAD)];
-    let index = near.iter().position(|event| is_event_of(thread, *event))?;
-    Some(at + index)
+    match first_event(&after[..AHEAD.min(after.len())], thread) {
+        Some(index) => Some(at + index),
+        None => None,
+    }
 }
 
 fn event_name(
@@ -179,7 +190,8 @@ fn instruction_range(
 }
 
 /// Returns the frame of a thread. Without a map, the source has a line for each event.
-pub fn frame(
+#[tactic(auto, unfolding(crate::specs::Frames::frame_of))]
+pub fn frame_of(
     alloc: Global,
     walker: &Walker,
     thread: EditorThread,

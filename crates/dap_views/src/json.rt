@@ -10,6 +10,7 @@ use std::alloc::{AllocError, Global};
 pub(crate) type Members = Map<String, Value>;
 
 /// Adds a member.
+#[tactic(auto, unfolding(crate::specs::Bodies::with))]
 pub(crate) fn put_member(
     alloc: Global,
     members: &mut Members,
@@ -23,6 +24,7 @@ pub(crate) fn put_member(
 }
 
 /// Adds a text.
+#[tactic(auto, unfolding(crate::specs::Bodies::text_data))]
 pub(crate) fn put_text(
     alloc: Global,
     members: &mut Members,
@@ -37,6 +39,7 @@ pub(crate) fn put_text(
 }
 
 /// Adds a number.
+#[tactic(auto, unfolding(crate::specs::Bodies::number_data))]
 pub(crate) fn put_number(
     alloc: Global,
     members: &mut Members,
@@ -50,6 +53,7 @@ pub(crate) fn put_number(
 }
 
 /// Adds a list.
+#[tactic(auto, unfolding(crate::specs::Bodies::list_data))]
 pub(crate) fn put_list(
     alloc: Global,
     members: &mut Members,

@@ -1,14 +1,14 @@
 //! Pages of the children of a container.
 ghost use Rattle.std.specs.Prelude.{◌≡◌, ◌≤◌, min};
-ghost use Rattle.dap_views.specs.Pages.{excludes};
-ghost use Rattle.dap_views.specs.Windows.{window, window_over};
+ghost use Rattle.dap_views.specs.Pages.{excludes, left_out, most_on};
+ghost use Rattle.dap_views.specs.Windows.{window};
 
 use crate::container::Container;
 use crate::counts::is_indexed;
 use dap_messages::Filter;
 
 /// How many children a page has if the request doesn't say how many.
-const USUAL: usize = 256;
+const USUAL: u64 = 256;
 
 /// The children of a container that are requested. A count of 0 is the first 256 from `start` on.
 #[derive(Clone, Copy)]
@@ -26,8 +26,8 @@ pub(crate) struct Window {
     pub rest: usize,
 }
 
-// Returns whether a filter leaves out the children of a container.
-fn excludes(filter: Filter, container: Container) -> bool
+/// Returns whether a filter leaves out the children of a container.
+pub(crate) fn excludes(filter: Filter, container: Container) -> bool
     ensures { result ≡ excludes filter container }
 {
     match filter {
@@ -49,36 +49,33 @@ fn at_most(number: u64, limit: usize) -> usize
     }
 }
 
-// Returns the window of a page of so many children.
-fn window_over(page: Page, total: usize) -> Window
-    ensures { result ≡ window_over page total }
+fn most_on(page: Page) -> u64
+    ensures { result ≡ most_on page }
 {
-    let from = at_most(page.start, total);
-    let after = total - from;
-    if page.count > 0 {
-        return Window {
-            from,
-            to: from + at_most(page.count, after),
-            rest: 0,
-        };
-    }
-    let count = after.min(USUAL);
-    Window {
-        from,
-        to: from + count,
-        rest: after - count,
+    if page.count == 0 { USUAL } else { page.count }
+}
+
+fn left_out(page: Page, after: usize) -> usize
+    ensures { result ≡ left_out page after }
+{
+    if page.count == 0 {
+        after.saturating_sub(USUAL as usize)
+    } else {
+        0
     }
 }
 
-/// Returns which of so many children of a container are on a page.
-pub(crate) fn window(container: Container, page: Page, total: usize) -> Window
-    ensures value { result ≡ window container page total }
+/// Returns which of `total` variables are on a page.
+pub(crate) fn window_of(page: Page, total: usize) -> Window
+    ensures value { result ≡ window page total }
     ensures order { result.from ≤ result.to }
     ensures within { result.to ≤ total }
 {
-    if excludes(page.filter, container) {
-        window_over(page, 0)
-    } else {
-        window_over(page, total)
+    let from = at_most(page.start, total);
+    let after = total - from;
+    Window {
+        from,
+        to: from + at_most(most_on(page), after),
+        rest: left_out(page, after),
     }
 }

@@ -24,20 +24,6 @@ pub enum RequestField {
     Phase,
 }
 
-/// The fields, in the order in which an editor shows them.
-pub(crate) const FIELDS: [RequestField; 10] = [
-    RequestField::Opcode,
-    RequestField::Flags,
-    RequestField::Descriptor,
-    RequestField::Offset,
-    RequestField::Address,
-    RequestField::Length,
-    RequestField::OperationFlags,
-    RequestField::UserData,
-    RequestField::Chain,
-    RequestField::Phase,
-];
-
 impl RequestField {
     /// Returns its name, as the manual page spells it.
     pub(crate) fn name(self) -> &'static str

@@ -2,7 +2,6 @@
 ghost use Rattle.std.specs.Prelude.{◌≡◌, IfOk};
 ghost use Rattle.scenario.specs.PlaceTexts.{name_of, place_text};
 ghost use Rattle.dap_views.specs.Variables.{child_variable, container_in, descriptor_object, field_variable, kind_text, nested_name, nested_value, nested_variable, object_kind, place_variable, plain_variable};
-ghost use Rattle.dap_views.specs.Children.{count_of};
 
 use crate::children::Child;
 use crate::container::Container;

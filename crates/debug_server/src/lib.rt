@@ -20,7 +20,7 @@ mod tracing;
 mod visitor;
 mod walking;
 
-pub use command_line::{Exploration, Form, Job, KINDS, job};
+pub use command_line::{Exploration, Form, Job, KINDS, ReportForm, job};
 pub use faults::{Fault, PathText, RunFault, ServeFault};
 pub use memory::replies;
 pub use replaying::replay;

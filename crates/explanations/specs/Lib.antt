@@ -1,3 +1,4 @@
 pub mod Common
 pub mod Explained
 pub mod ReportLists
+pub mod Locations

@@ -3,12 +3,24 @@ ghost use Rattle.std.specs.Prelude.{◌≡◌, ◌≤◌, None, IfOk, IfErr, len
 ghost use Rattle.explanations.specs.{Common.list_any, Common.setup_refusal, Explained.Explains, Explained.ExplainsRun, Explained.Unexplained, Explained.UnexplainedRun, Explained.counts, Explained.is_among, Explained.is_fault_of, Explained.is_requested};
 
 use crate::json::add_object;
+use crate::sarif::{HEAD, Source, TAIL, add_result, source_of};
 use finding_kinds::{Finding, Kind};
 use findings::search_run;
 use machine::{Event, Setup, State};
 use runs::{Ended, ReportFault, read_run};
 use sentences::{Run, sentence};
 use std::alloc::{AllocError, Global};
+
+/// The form of a report.
+#[derive(Clone, Copy)]
+pub enum Form<'a> {
+    /// Paragraphs.
+    Text,
+    /// A list of objects.
+    Json,
+    /// A SARIF log. The run is the file of this path; without one, nothing has a location.
+    Sarif(Option<&'a str>),
+}
 
 /// The options of `explain`.
 #[derive(Clone, Copy)]
@@ -17,14 +29,14 @@ pub struct Request<'a> {
     pub kinds: &'a [Kind],
     /// Faults of kinds with these names don't change the exit status (`--allow`).
     pub allowed: &'a [Kind],
-    /// Print JSON (`--json`) instead of paragraphs.
-    pub json: bool,
+    /// The form of the report: `--json`, `--sarif`, or paragraphs.
+    pub form: Form<'a>,
 }
 
 /// The report of a run.
 #[derive(Drop)]
 pub struct Explanation {
-    /// The findings of the requested kinds in order, as text or as JSON.
+    /// The findings of the requested kinds in order.
     pub text: String,
     /// Whether some of them is a fault that isn't allowed.
     pub is_faulty: bool,
@@ -82,6 +94,7 @@ fn add_paragraph(
 fn add_finding(
     alloc: Global,
     out: &mut String,
+    source: Option<&Source>,
     run: &Run<'_>,
     request: Request<'_>,
     index: usize,
@@ -90,21 +103,22 @@ fn add_finding(
     if !is_requested(request.kinds, finding.kind) {
         return Ok(());
     }
-    if request.json {
-        add_object(alloc, out, run, index, finding)
-    } else {
-        add_paragraph(alloc, out, run, index, finding)
+    match request.form {
+        Form::Text => add_paragraph(alloc, out, run, index, finding),
+        Form::Json => add_object(alloc, out, run, index, finding),
+        Form::Sarif(_) => add_result(alloc, out, source, run, index, finding),
     }
 }
 
 fn add_findings(
     alloc: Global,
     out: &mut String,
+    source: Option<&Source>,
     run: &Run<'_>,
     request: Request<'_>,
 ) -> Result<(), AllocError> {
     for index in 0..run.found.len() {
-        add_finding(alloc, out, run, request, index, run.found[index])?;
+        add_finding(alloc, out, source, run, request, index, run.found[index])?;
     }
     Ok(())
 }
@@ -133,23 +147,50 @@ fn add_sum(
     out.push_str(sum.as_str())
 }
 
-// Returns the report of a run.
-fn text_of(alloc: Global, run: &Run<'_>, request: Request<'_>) -> Result<String, AllocError> {
+// Appends the findings as a SARIF log.
+fn add_log(
+    alloc: Global,
+    out: &mut String,
+    source: Option<Source>,
+    run: &Run<'_>,
+    request: Request<'_>,
+) -> Result<(), AllocError> {
+    out.push_str(HEAD)?;
+    add_findings(alloc, out, source.as_ref(), run, request)?;
+    out.push_str(TAIL)
+}
+
+// Returns the report of the run that bytes describe.
+fn text_of(
+    alloc: Global,
+    bytes: &[u8],
+    run: &Run<'_>,
+    request: Request<'_>,
+) -> Result<String, AllocError> {
     let mut out = String::new(alloc);
-    if request.json {
-        out.push_str("[\n")?;
-        add_findings(alloc, &mut out, run, request)?;
-        out.push_str("\n]\n")?;
-    } else {
-        add_findings(alloc, &mut out, run, request)?;
-        add_sum(alloc, &mut out, run.found, request)?;
+    match request.form {
+        Form::Text => {
+            add_findings(alloc, &mut out, None, run, request)?;
+            add_sum(alloc, &mut out, run.found, request)?;
+        }
+        Form::Json => {
+            out.push_str("[\n")?;
+            add_findings(alloc, &mut out, None, run, request)?;
+            out.push_str("\n]\n")?;
+        }
+        Form::Sarif(Some(path)) => {
+            let source = source_of(alloc, path, bytes)?;
+            add_log(alloc, &mut out, source, run, request)?;
+        }
+        Form::Sarif(None) => add_log(alloc, &mut out, None, run, request)?,
     }
     Ok(out)
 }
 
-// Runs the events and reports their findings.
+// Runs the events, which bytes describe, and reports their findings.
 fn explain_events(
     alloc: Global,
+    bytes: &[u8],
     setup: &Setup,
     events: &[Event],
     request: Request<'_>,
@@ -175,7 +216,7 @@ fn explain_events(
         history: &found.history,
         found: &found.findings,
     };
-    let text = text_of(alloc, &run, request)?;
+    let text = text_of(alloc, bytes, &run, request)?;
     let is_faulty = has_fault(request.kinds, request.allowed, &found.findings);
     Ok(Explanation { text, is_faulty })
 }
@@ -193,5 +234,5 @@ pub fn explain_run(
     ensures err { IfErr result (UnexplainedRun bytes.now) }
 {
     let run = read_run(alloc, bytes)?;
-    explain_events(alloc, run.setup(), run.events(), request)
+    explain_events(alloc, bytes, run.setup(), run.events(), request)
 }

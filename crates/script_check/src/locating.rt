@@ -1,7 +1,9 @@
 //! Finds the line and the column at which a value of a script begins.
 
-use json_offsets::{Member, document_at, item_at, last_member};
+use json_offsets::document_at;
+use script::items::key_path;
 use script::{Key, Path};
+use source_map::Spans;
 
 /// A line and a column, both counted from 1. A column counts bytes, as in `serde_json`.
 #[derive(Clone, Copy)]
@@ -61,18 +63,15 @@ pub(crate) fn key_word(key: Key) -> &'static str {
 
 /// Returns the offset of the value at a path. If there is none, returns the offset of the object or
 /// the list that should contain it.
-pub(crate) fn offset_of(text: &[u8], members: &[Member], path: Path) -> usize {
-    let Some(member) = last_member(members, key_word(path.key)) else {
-        return document_at(text);
+pub(crate) fn offset_of(text: &[u8], spans: &Spans, path: Path) -> usize {
+    let outer = Path {
+        inner: None,
+        ..path
     };
-    let Some(item) = path.item else {
-        return member.value;
-    };
-    let Some(outer) = item_at(text, member.value, item) else {
-        return member.value;
-    };
-    match path.inner {
-        Some(inner) => item_at(text, outer, inner).unwrap_or(outer),
-        None => outer,
+    for path in [path, outer, key_path(path.key)] {
+        if let Some(span) = spans.at(path) {
+            return span.start;
+        }
     }
+    document_at(text)
 }

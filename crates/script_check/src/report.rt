@@ -5,10 +5,11 @@ use crate::fault_sentences::{is_unknown, sentence, unknown_key};
 use crate::further::{MOST_FAULTS, faults_of};
 use crate::locating::{Position, key_word, offset_of, position_of};
 use crate::not_json::no_json;
-use json_offsets::{Member, members_of};
+use json_offsets::members_of;
 use script::items::{item_path, key_path};
 use script::{Key, Path, ScriptFault};
 use serde_json::Value;
+use source_map::{Spans, spans_of};
 use std::alloc::{AllocError, Global};
 
 /// A script's text, and the name of its file.
@@ -65,12 +66,8 @@ impl Lines {
     }
 
     // Adds a line for each unknown key of the document.
-    fn add_unknown_keys(
-        &mut self,
-        source: Source<'_>,
-        members: &[Member],
-    ) -> Result<(), AllocError> {
-        for member in members {
+    fn add_unknown_keys(&mut self, source: Source<'_>) -> Result<(), AllocError> {
+        for member in &members_of(self.alloc, source.text)? {
             if is_unknown(&member.key) {
                 let message = unknown_key(self.alloc, &member.key)?;
                 self.add(source, member.at, key_path(Key::Document), message.as_str())?;
@@ -82,16 +79,16 @@ impl Lines {
     fn add_fault(
         &mut self,
         source: Source<'_>,
-        members: &[Member],
+        spans: &Spans,
         document: &Value,
         fault: ScriptFault,
     ) -> Result<(), AllocError> {
         let path = path_of(fault);
         if document.is_object() && matches!(path.key, Key::Document) {
-            return self.add_unknown_keys(source, members);
+            return self.add_unknown_keys(source);
         }
         let message = sentence(self.alloc, document, fault)?;
-        let offset = offset_of(source.text, members, path);
+        let offset = offset_of(source.text, spans, path);
         self.add(source, offset, path, message.as_str())
     }
 }
@@ -104,12 +101,12 @@ fn path_of(fault: ScriptFault) -> Path {
 }
 
 fn fault_lines(alloc: Global, source: Source<'_>, document: &Value, first: ScriptFault) -> Wording {
-    let members = members_of(alloc, source.text)?;
+    let spans = spans_of(alloc, source.text)?;
     let mut lines = Lines::new(alloc);
-    lines.add_fault(source, &members, document, first)?;
+    lines.add_fault(source, &spans, document, first)?;
     for fault in &faults_of(alloc, document)? {
         if *fault != first {
-            lines.add_fault(source, &members, document, *fault)?;
+            lines.add_fault(source, &spans, document, *fault)?;
         }
     }
     let Lines { out, .. } = lines;
@@ -131,9 +128,9 @@ pub(crate) fn faults_text(alloc: Global, source: Source<'_>, first: ScriptFault)
 
 /// Returns the line of a sentence about an event of the schedule.
 pub(crate) fn event_text(alloc: Global, source: Source<'_>, index: u32, sentence: &str) -> Wording {
-    let members = members_of(alloc, source.text)?;
+    let spans = spans_of(alloc, source.text)?;
     let path = item_path(Key::Schedule, index);
-    let offset = offset_of(source.text, &members, path);
+    let offset = offset_of(source.text, &spans, path);
     let mut lines = Lines::new(alloc);
     lines.add(source, offset, path, sentence)?;
     let Lines { out, .. } = lines;

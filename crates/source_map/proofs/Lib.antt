@@ -1,2 +1,4 @@
 mod Cursors
 mod Lists
+mod ListTexts
+mod WordItems

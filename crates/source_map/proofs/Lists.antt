@@ -32,7 +32,7 @@ threads_more size text t j [] (q ∷ ps) ls p g e h = absurd g
 threads_more size text t j (m ∷ lss) [] ls p g e h = absurd g
 
 -- The items so far, and one more that was certified and located.
-pub located_more : {A : Type 0} → (item_at : ℕ → Data → Result A ScriptFault) (text : List ℕ) (items items' : List Item) (xs : List A) (i : ℕ) (x : A) (span : Span) (item : Item) (offset : ℕ) → i < length xs → x ≡ get_or xs i x → AreItems item_at text 0 0 items (take i xs) → offset ≡ end_of 0 items → IsRange item_at text span i x → offset ≤ span.start → item.span ≡ span → item.start ≡ position_at text span.start → item.end ≡ position_at text span.end → items' ≡ items ++ item ∷ [] → AreItems item_at text 0 0 items' (take (i + 1) xs) × (span.end ≡ end_of 0 items')
+pub located_more : {A : Type 0} → (item_at : ℕ → Data → Result A ScriptFault) (text : List ℕ) (items items' : List Item) (xs : List A) (i : ℕ) (x : A) (span : Span) (item : Item) (offset : ℕ) → i < length xs → x ≡ get_or xs i x → AreItems item_at text 0 0 items (take i xs) → end_of 0 items ≤ offset → IsRange item_at text span i x → offset ≤ span.start → item.span ≡ span → item.start ≡ position_at text span.start → item.end ≡ position_at text span.end → items' ≡ items ++ item ∷ [] → AreItems item_at text 0 0 items' (take (i + 1) xs) × (span.end ≡ end_of 0 items')
 located_more item_at text items items' xs i x span item offset lt at g off range after es start end more =
     let e : take (i + 1) xs ≡ take i xs ++ x ∷ [] = take_more xs i x lt ∙ ap (λ y. take i xs ++ y ∷ []) (sym at) in
     let count : length (take i xs) ≡ i = length-take-le i xs (omega arith) in

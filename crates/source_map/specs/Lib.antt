@@ -1,2 +1,3 @@
 pub mod Positions
 pub mod Maps
+pub mod ListTexts

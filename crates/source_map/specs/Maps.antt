@@ -25,10 +25,6 @@ pub record IsRange {A : Type 0} (item_at : ℕ → Data → Result A ScriptFault
   pub there : ReadsAt text s value
   pub item : item_at i value ≡ Ok x
 
--- A list of any JSON values.
-abbrev pub value_item : ℕ → Data → Result Data ScriptFault
-value_item i d = Ok d
-
 -- The range of item i, with its positions, from an offset on.
 pub record IsItem {A : Type 0} (item_at : ℕ → Data → Result A ScriptFault) (text : List ℕ) (before : ℕ) (l : Item) (i : ℕ) (x : A) : Type 0 where
   pub after : before ≤ l.span.start

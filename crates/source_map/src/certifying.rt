@@ -1,28 +1,25 @@
 //! Reads ranges of a text, and compares them with the items that they should be.
-ghost use Rattle.std.specs.Prelude.{◌≡◌, ◌≤◌, IfOk, IfSome, IsTrue};
-ghost use Rattle.serde_json.specs.Data.{depth};
-ghost use Rattle.serde_json.specs.Read.{max_depth};
+ghost use Rattle.std.specs.Prelude.{◌≡◌, IfOk, IfSome, IsTrue, Some};
+ghost use Rattle.serde_json.specs.Read.{read};
 ghost use Rattle.serde_json.specs.View.{view};
 ghost use Rattle.script.specs.Events.{event_at};
 ghost use Rattle.script.specs.Instructions.{instruction_at};
 ghost use Rattle.source_map.specs.Maps.{IsRange, ReadsAt};
 
 use crate::span::Span;
+use crate::spelling::range_of;
+use crate::words::{spells_event, spells_instruction};
 use scenario::{Event, Instruction};
 use script::ScriptFault;
 use script::items::{read_event, read_instruction};
 use serde_json::Value;
 use std::alloc::{AllocError, Global};
 
-// Returns the value that a range reads as.
-fn value_at(alloc: Global, text: &[u8], span: Span) -> Result<Option<Value>, AllocError>
-    ensures reads { IfOk result (λ found. IfSome found (λ v. ReadsAt text.now span (view v))) }
-    ensures depth { IfOk result (λ found. IfSome found (λ v. depth (view v) ≤ max_depth)) }
+/// Returns the value that a text reads as.
+pub(crate) fn value_of(alloc: Global, text: &[u8]) -> Result<Option<Value>, AllocError>
+    ensures { IfOk result (λ found. IfSome found (λ v. read text.now ≡ Some (view v))) }
 {
-    let Some(bytes) = text.get(span.start..span.end) else {
-        return Ok(None);
-    };
-    match Value::from_slice(alloc, bytes) {
+    match Value::from_slice(alloc, text) {
         Ok(value) => Ok(Some(value)),
         Err(error) => {
             if error.is_memory() {
@@ -34,25 +31,13 @@ fn value_at(alloc: Global, text: &[u8], span: Span) -> Result<Option<Value>, All
     }
 }
 
-// Returns whether two values have the same text.
-fn have_same_text(alloc: Global, one: &Value, other: &Value) -> Result<bool, AllocError>
-    requires one { depth (view one.now) ≤ max_depth }
-    requires other { depth (view other.now) ≤ max_depth }
-    ensures { IfOk result (λ yes. IsTrue yes → view one.now ≡ view other.now) }
+// Returns the value that a range reads as.
+fn value_at(alloc: Global, text: &[u8], span: Span) -> Result<Option<Value>, AllocError>
+    ensures { IfOk result (λ found. IfSome found (λ v. ReadsAt text.now span (view v))) }
 {
-    let one = one.to_string(alloc)?;
-    let other = other.to_string(alloc)?;
-    Ok(one.as_str() == other.as_str())
-}
-
-/// Returns whether a range reads as a JSON value.
-pub fn is_value(alloc: Global, text: &[u8], span: Span, value: &Value) -> Result<bool, AllocError>
-    requires { depth (view value.now) ≤ max_depth }
-    ensures { IfOk result (λ yes. IsTrue yes → ReadsAt text.now span (view value.now)) }
-{
-    match value_at(alloc, text, span)? {
-        Some(found) => have_same_text(alloc, &found, value),
-        None => Ok(false),
+    match range_of(text, span) {
+        Some(range) => value_of(alloc, range),
+        None => Ok(None),
     }
 }
 
@@ -72,6 +57,9 @@ pub(crate) fn is_event(
 ) -> Result<bool, AllocError>
     ensures { IfOk result (λ yes. IsTrue yes → IsRange event_at text.now span index event.now) }
 {
+    if spells_event(text, span, event) {
+        return Ok(true);
+    }
     let Some(value) = value_at(alloc, text, span)? else {
         return Ok(false);
     };
@@ -95,6 +83,9 @@ pub(crate) fn is_instruction(
     ensures { IfOk result (λ yes. IsTrue yes
         → IsRange (instruction_at size thread) text.now span index instruction.now) }
 {
+    if spells_instruction(text, span, instruction) {
+        return Ok(true);
+    }
     let Some(value) = value_at(alloc, text, span)? else {
         return Ok(false);
     };

@@ -1,8 +1,11 @@
 //! Lines and columns of a text.
 ghost use Rattle.std.specs.Prelude.{◌≡◌, ◌+◌, ◌<◌, ◌≤◌, ◌^◌, length};
-ghost use Rattle.source_map.specs.Positions.{IsCursor, pass};
+ghost use Rattle.source_map.specs.Positions.{IsCursor, most_bytes, pass, units};
 
-/// A line and a column, both from 1. A column counts bytes.
+/// The most bytes of a text that has positions, which is the most of a script.
+pub(crate) const MOST_BYTES: usize = 8388608;
+
+/// A line and a column, both from 1. A column counts the UTF-16 code units before it in its line.
 #[derive(Clone, Copy)]
 pub struct Position {
     pub line: usize,
@@ -16,10 +19,25 @@ pub(crate) struct Cursor {
     pub position: Position,
 }
 
+// Returns the number of UTF-16 code units of the character that a byte of UTF-8 begins.
+fn units(byte: u8) -> usize
+    ensures { result ≡ units byte }
+{
+    if byte < 0x80 {
+        1
+    } else if byte < 0xc0 {
+        0
+    } else if byte < 0xf0 {
+        1
+    } else {
+        2
+    }
+}
+
 // Returns the position after a byte.
 fn pass(position: Position, byte: u8) -> Position
     requires line { position.line + 1 < 2 ^ 64 }
-    requires column { position.column + 1 < 2 ^ 64 }
+    requires column { position.column + 2 < 2 ^ 64 }
     ensures { result ≡ pass position byte }
 {
     let Position { line, column } = position;
@@ -31,7 +49,7 @@ fn pass(position: Position, byte: u8) -> Position
     } else {
         Position {
             line,
-            column: column + 1,
+            column: column + units(byte),
         }
     }
 }
@@ -54,6 +72,7 @@ pub(crate) fn advance(text: &[u8], cursor: Cursor, to: usize) -> Cursor
     requires cursor { IsCursor text.now cursor }
     requires forward { cursor.offset ≤ to }
     requires within { to ≤ length text.now }
+    requires most { length text.now ≤ most_bytes }
     ensures cursor { IsCursor text.now result }
     ensures offset { result.offset ≡ to }
 {

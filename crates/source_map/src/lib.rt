@@ -1,5 +1,5 @@
 //! Where the items of a script are in its text: the instructions of its threads, the events of its
-//! schedule, and the items of its setup's lists. Each range is read, and has to be that item.
+//! schedule. Each range is read, and has to be that item.
 #![tactic(auto)]
 
 mod certifying;
@@ -8,11 +8,12 @@ mod locating;
 mod map;
 mod scanning;
 mod span;
+mod spelling;
 mod walk;
+mod words;
 
-pub use certifying::is_value;
 pub use cursor::Position;
-pub use locating::{locate_values, source_map};
+pub use locating::source_map;
 pub use map::{Item, SourceMap};
 pub use scanning::{KeyValue, Spans, spans_of};
 pub use span::Span;

@@ -1,22 +1,18 @@
 //! Certifies the ranges of a script's items, and adds their lines and columns.
-ghost use Rattle.std.specs.Prelude.{◌≡◌, ◌≤◌, All, IfOk, IfSome, length, map};
-ghost use Rattle.serde_json.specs.Data.{depth};
-ghost use Rattle.serde_json.specs.Read.{max_depth};
-ghost use Rattle.serde_json.specs.View.{view};
+ghost use Rattle.std.specs.Prelude.{◌≡◌, ◌≤◌, IfOk, IfSome, length};
 ghost use Rattle.script.specs.Events.{event_at};
 ghost use Rattle.script.specs.Instructions.{instruction_at};
-ghost use Rattle.source_map.specs.Maps.{AreItems, AreThreads, Maps, value_item};
-ghost use Rattle.source_map.specs.Positions.{IsCursor, position_at};
+ghost use Rattle.source_map.specs.Maps.{AreItems, AreThreads, Maps};
+ghost use Rattle.source_map.specs.Positions.{IsCursor, most_bytes, position_at};
 
-use crate::certifying::{is_event, is_instruction, is_value};
-use crate::cursor::{Cursor, advance, text_start};
+use crate::certifying::{is_event, is_instruction};
+use crate::cursor::{Cursor, MOST_BYTES, advance, text_start};
 use crate::map::{Item, SourceMap};
 use crate::scanning::spans_of;
 use crate::span::Span;
 use places::Items;
 use scenario::{Event, Instruction, ring_size};
 use script::Script;
-use serde_json::Value;
 use std::alloc::{AllocError, Global};
 
 /// The most threads of a script, and the most instructions of one.
@@ -24,9 +20,13 @@ const MOST_THREADS: usize = 16;
 
 const MOST_INSTRUCTIONS: usize = 4096;
 
+/// What is found in a text up to a cursor.
+type Found<T> = Option<(T, Cursor)>;
+
 // Returns a range with its positions, and the cursor after it. A range before the cursor has none.
-fn locate(text: &[u8], cursor: Cursor, span: Span) -> Option<(Item, Cursor)>
-    requires { IsCursor text.now cursor }
+fn locate(text: &[u8], cursor: Cursor, span: Span) -> Found<Item>
+    requires cursor { IsCursor text.now cursor }
+    requires most { length text.now ≤ most_bytes }
     ensures after { IfSome result (λ r. cursor.offset ≤ span.start) }
     ensures span { IfSome result (λ r. r.0.span ≡ span) }
     ensures start { IfSome result (λ r. r.0.start ≡ position_at text.now span.start) }
@@ -50,18 +50,22 @@ fn locate(text: &[u8], cursor: Cursor, span: Span) -> Option<(Item, Cursor)>
 fn locate_events(
     alloc: Global,
     text: &[u8],
+    cursor: Cursor,
     spans: &[Span],
     events: &[Event],
-) -> Result<Option<Items<Item>>, AllocError>
-    requires { length events.now ≤ 65536 }
-    ensures { IfOk result (λ found. IfSome found (λ items.
-        AreItems event_at text.now 0 0 items events.now)) }
+) -> Result<Found<Items<Item>>, AllocError>
+    requires cursor { IsCursor text.now cursor }
+    requires most { length text.now ≤ most_bytes }
+    requires events { length events.now ≤ 65536 }
+    ensures items { IfOk result (λ found. IfSome found (λ r.
+        AreItems event_at text.now 0 0 r.0 events.now)) }
+    ensures cursor { IfOk result (λ found. IfSome found (λ r. IsCursor text.now r.1)) }
 {
     if spans.len() != events.len() {
         return Ok(None);
     }
     let mut items = Vec::with_capacity(alloc, events.len())?;
-    let mut cursor = text_start(text);
+    let mut cursor = cursor;
     for (i, event) in events.iter().enumerate() {
         let span = spans[i];
         if !is_event(alloc, text, span, i as u32, event)? {
@@ -73,55 +77,29 @@ fn locate_events(
         items.push(item)?;
         cursor = after;
     }
-    Ok(Some(Items::from_vec(items)))
-}
-
-/// Returns where the items of a JSON list are, such as those of a script's setup.
-pub fn locate_values(
-    alloc: Global,
-    text: &[u8],
-    spans: &[Span],
-    values: &[Value],
-) -> Result<Option<Items<Item>>, AllocError>
-    requires { All (λ v. depth (view v) ≤ max_depth) values.now }
-    ensures { IfOk result (λ found. IfSome found (λ items.
-        AreItems value_item text.now 0 0 items (map view values.now))) }
-{
-    if spans.len() != values.len() {
-        return Ok(None);
-    }
-    let mut items = Vec::with_capacity(alloc, values.len())?;
-    let mut cursor = text_start(text);
-    for (i, value) in values.iter().enumerate() {
-        let span = spans[i];
-        if !is_value(alloc, text, span, value)? {
-            return Ok(None);
-        }
-        let Some((item, after)) = locate(text, cursor, span) else {
-            return Ok(None);
-        };
-        items.push(item)?;
-        cursor = after;
-    }
-    Ok(Some(Items::from_vec(items)))
+    Ok(Some((Items::from_vec(items), cursor)))
 }
 
 fn locate_program(
     alloc: Global,
     text: &[u8],
+    cursor: Cursor,
     size: u32,
     thread: u32,
     spans: &[Span],
     program: &[Instruction],
-) -> Result<Option<Items<Item>>, AllocError>
-    ensures { IfOk result (λ found. IfSome found (λ items.
-        AreItems (instruction_at size thread) text.now 0 0 items program.now)) }
+) -> Result<Found<Items<Item>>, AllocError>
+    requires cursor { IsCursor text.now cursor }
+    requires most { length text.now ≤ most_bytes }
+    ensures items { IfOk result (λ found. IfSome found (λ r.
+        AreItems (instruction_at size thread) text.now 0 0 r.0 program.now)) }
+    ensures cursor { IfOk result (λ found. IfSome found (λ r. IsCursor text.now r.1)) }
 {
     if spans.len() != program.len() || program.len() > MOST_INSTRUCTIONS {
         return Ok(None);
     }
     let mut items = Vec::with_capacity(alloc, program.len())?;
-    let mut cursor = text_start(text);
+    let mut cursor = cursor;
     for (i, instruction) in program.iter().enumerate() {
         let span = spans[i];
         if !is_instruction(alloc, text, span, size, thread, i as u32, instruction)? {
@@ -133,31 +111,49 @@ fn locate_program(
         items.push(item)?;
         cursor = after;
     }
-    Ok(Some(Items::from_vec(items)))
+    Ok(Some((Items::from_vec(items), cursor)))
 }
 
 fn locate_threads(
     alloc: Global,
     text: &[u8],
+    cursor: Cursor,
     size: u32,
     spans: &[Items<Span>],
     threads: &[Items<Instruction>],
-) -> Result<Option<Items<Items<Item>>>, AllocError>
-    ensures { IfOk result (λ found. IfSome found (λ items.
-        AreThreads size text.now 0 items threads.now)) }
+) -> Result<Found<Items<Items<Item>>>, AllocError>
+    requires cursor { IsCursor text.now cursor }
+    requires most { length text.now ≤ most_bytes }
+    ensures items { IfOk result (λ found. IfSome found (λ r.
+        AreThreads size text.now 0 r.0 threads.now)) }
+    ensures cursor { IfOk result (λ found. IfSome found (λ r. IsCursor text.now r.1)) }
 {
     if spans.len() != threads.len() || threads.len() > MOST_THREADS {
         return Ok(None);
     }
     let mut located = Vec::with_capacity(alloc, threads.len())?;
+    let mut cursor = cursor;
     for (i, program) in threads.iter().enumerate() {
         let spans = spans[i].as_slice();
-        match locate_program(alloc, text, size, i as u32, spans, program.as_slice())? {
-            Some(items) => located.push(items)?,
-            None => return Ok(None),
-        }
+        let program = program.as_slice();
+        let Some((items, after)) = locate_program(
+            alloc, text, cursor, size, i as u32, spans, program,
+        )?
+        else {
+            return Ok(None);
+        };
+        located.push(items)?;
+        cursor = after;
     }
-    Ok(Some(Items::from_vec(located)))
+    Ok(Some((Items::from_vec(located), cursor)))
+}
+
+// Returns whether the first of some ranges is before the first of others.
+fn is_before(ranges: &[Span], others: &[Span]) -> bool {
+    match (ranges.first(), others.first()) {
+        (Some(range), Some(other)) => range.start < other.start,
+        _ => false,
+    }
 }
 
 /// Returns where the items of a script are in its text, or `None` if a range doesn't read as its
@@ -169,15 +165,32 @@ pub fn source_map(
 ) -> Result<Option<SourceMap>, AllocError>
     ensures { IfOk result (λ found. IfSome found (λ map. Maps text.now script.now map)) }
 {
+    if text.len() > MOST_BYTES {
+        return Ok(None);
+    }
     let spans = spans_of(alloc, text)?;
     let setup = script.setup();
     let size = ring_size(setup.entries);
-    let Some(threads) = locate_threads(alloc, text, size, &spans.threads, setup.threads.as_slice())?
+    let threads = setup.threads.as_slice();
+    let start = text_start(text);
+    if is_before(&spans.schedule, &spans.programs) {
+        let Some((schedule, after)) = locate_events(
+            alloc,
+            text,
+            start,
+            &spans.schedule,
+            script.schedule(),
+        )?
+        else {
+            return Ok(None);
+        };
+        let found = locate_threads(alloc, text, after, size, &spans.threads, threads)?;
+        return Ok(found.map(|(threads, _)| SourceMap { threads, schedule }));
+    }
+    let Some((threads, after)) = locate_threads(alloc, text, start, size, &spans.threads, threads)?
     else {
         return Ok(None);
     };
-    let Some(schedule) = locate_events(alloc, text, &spans.schedule, script.schedule())? else {
-        return Ok(None);
-    };
-    Ok(Some(SourceMap { threads, schedule }))
+    let found = locate_events(alloc, text, after, &spans.schedule, script.schedule())?;
+    Ok(found.map(|(schedule, _)| SourceMap { threads, schedule }))
 }

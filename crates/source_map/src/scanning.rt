@@ -1,9 +1,11 @@
 //! Finds the values of a script's text in one pass, without reading them.
 
+use crate::certifying::value_of;
 use crate::span::Span;
+use crate::spelling::range_of;
 use crate::walk::{Ended, Walk};
 use places::Items;
-use script::Key;
+use script::{Key, Path};
 use serde_json::Value;
 use std::alloc::{AllocError, Global};
 use std::mem;
@@ -43,6 +45,38 @@ impl Spans {
             schedule: Vec::new(alloc),
         }
     }
+
+    // Returns the items of a key's list.
+    fn items(&self, key: Key) -> &[Span] {
+        match key {
+            Key::Memory => &self.memory,
+            Key::Objects => &self.objects,
+            Key::Fds => &self.fds,
+            Key::Threads => &self.programs,
+            Key::Schedule => &self.schedule,
+            _ => &[],
+        }
+    }
+
+    // Returns the last value of a key.
+    fn value(&self, key: Key) -> Option<Span> {
+        let found = self.values.iter().rev().find(|value| value.key == key);
+        found.map(|value| value.span)
+    }
+
+    /// Returns the range of the value at a path, if there is one.
+    pub fn at(&self, path: Path) -> Option<Span> {
+        let Some(item) = path.item else {
+            return self.value(path.key);
+        };
+        match path.inner {
+            Some(inner) => {
+                let items = self.threads.get(item as usize)?.as_slice();
+                items.get(inner as usize).copied()
+            }
+            None => self.items(path.key).get(item as usize).copied(),
+        }
+    }
 }
 
 // A scan of a script.
@@ -60,34 +94,38 @@ struct Scan {
     spans: Spans,
 }
 
-fn key_named(word: &str) -> Option<Key> {
+fn key_named(word: &[u8]) -> Option<Key> {
     match word {
-        "entries" => Some(Key::Entries),
-        "cq" => Some(Key::Cq),
-        "sqpoll" => Some(Key::Sqpoll),
-        "submit_all" => Some(Key::SubmitAll),
-        "base" => Some(Key::Base),
-        "memory" => Some(Key::Memory),
-        "objects" => Some(Key::Objects),
-        "fds" => Some(Key::Fds),
-        "threads" => Some(Key::Threads),
-        "schedule" => Some(Key::Schedule),
+        b"entries" => Some(Key::Entries),
+        b"cq" => Some(Key::Cq),
+        b"sqpoll" => Some(Key::Sqpoll),
+        b"submit_all" => Some(Key::SubmitAll),
+        b"base" => Some(Key::Base),
+        b"memory" => Some(Key::Memory),
+        b"objects" => Some(Key::Objects),
+        b"fds" => Some(Key::Fds),
+        b"threads" => Some(Key::Threads),
+        b"schedule" => Some(Key::Schedule),
         _ => None,
     }
 }
 
-// Returns the key that a range of the text spells, if a script has it.
+// Returns the key that a range of the text spells, if a script has it. Only a string with escapes
+// is read.
 fn key_at(alloc: Global, text: &[u8], span: Span) -> Result<Option<Key>, AllocError> {
-    let Some(bytes) = text.get(span.start..span.end) else {
+    let Some(range) = range_of(text, span) else {
         return Ok(None);
     };
-    match Value::from_slice(alloc, bytes) {
-        Ok(key) => Ok(key.as_str().and_then(key_named)),
-        Err(e) => {
-            if e.is_memory() {
-                return Err(AllocError);
-            }
-            Ok(None)
+    match range {
+        [b'"', word @ .., b'"'] if !word.contains(&b'\\') => Ok(key_named(word)),
+        _ => {
+            let found = value_of(alloc, range)?;
+            Ok(
+                found
+                    .as_ref()
+                    .and_then(Value::as_str)
+                    .and_then(|key| key_named(key.as_bytes())),
+            )
         }
     }
 }
@@ -145,7 +183,6 @@ impl Scan {
 
     fn take(&mut self, text: &[u8], ended: Ended) -> Result<(), AllocError> {
         match ended {
-            Ended::Nothing => Ok(()),
             Ended::Key(span) => {
                 self.key = key_at(self.alloc, text, span)?;
                 Ok(())
@@ -161,11 +198,16 @@ impl Scan {
 pub fn spans_of(alloc: Global, text: &[u8]) -> Result<Spans, AllocError> {
     let mut scan = Scan::new(alloc);
     let mut walk = Walk::new();
-    for (at, byte) in text.iter().enumerate() {
-        let before = walk.read_end(at, *byte);
-        scan.take(text, before)?;
-        let ended = walk.read(at, *byte);
-        scan.take(text, ended)?;
+    let mut at = 0;
+    while at < text.len() {
+        let byte = text[at];
+        if let Some(before) = walk.read_end(at, byte) {
+            scan.take(text, before)?;
+        }
+        if let Some(ended) = walk.read(at, byte) {
+            scan.take(text, ended)?;
+        }
+        at = walk.next(text, at + 1);
     }
     let Scan { spans, .. } = scan;
     Ok(spans)

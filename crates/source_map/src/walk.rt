@@ -1,4 +1,5 @@
 //! Splits a JSON text into its values, byte by byte. It expects a valid text.
+ghost use Rattle.std.specs.Prelude.{◌≤◌, length};
 
 use crate::span::Span;
 
@@ -21,7 +22,6 @@ enum Within {
 /// What ends at a byte.
 #[derive(Clone, Copy)]
 pub(crate) enum Ended {
-    Nothing,
     Key(Span),
     /// The value of a member of the document.
     Value(Span),
@@ -43,6 +43,11 @@ pub(crate) struct Walk {
     is_after_key: bool,
 }
 
+// Returns whether a byte ends a number or a word.
+fn ends_scalar(byte: u8) -> bool {
+    matches!(byte, b' ' | b'\t' | b'\r' | b'\n' | b',' | b']' | b'}')
+}
+
 impl Walk {
     pub fn new() -> Walk {
         Walk {
@@ -60,22 +65,22 @@ impl Walk {
     }
 
     // Ends the current value before an offset.
-    fn end(&mut self, end: usize) -> Ended {
+    fn end(&mut self, end: usize) -> Option<Ended> {
         self.within = Within::Plain;
         if self.depth >= LEVELS {
-            return Ended::Nothing;
+            return None;
         }
         let start = self.starts[self.depth];
         let span = Span { start, end };
         match self.depth {
-            1 => if self.is_after_key {
+            1 => Some(if self.is_after_key {
                 Ended::Value(span)
             } else {
                 Ended::Key(span)
-            },
-            2 => Ended::Item(span),
-            3 => Ended::Inner(span),
-            _ => Ended::Nothing,
+            }),
+            2 => Some(Ended::Item(span)),
+            3 => Some(Ended::Inner(span)),
+            _ => None,
         }
     }
 
@@ -86,7 +91,7 @@ impl Walk {
     }
 
     // Reads a byte outside of strings, numbers and words.
-    fn read_plain(&mut self, at: usize, byte: u8) -> Ended {
+    fn read_plain(&mut self, at: usize, byte: u8) -> Option<Ended> {
         match byte {
             b' ' | b'\t' | b'\r' | b'\n' => {}
             b',' => self.set_after_key(false),
@@ -108,22 +113,39 @@ impl Walk {
                 self.within = Within::Scalar;
             }
         }
-        Ended::Nothing
+        None
+    }
+
+    /// Returns the offset of the next byte that has to be read, from an offset on. White space and
+    /// what is within a string, a number or a word are passed over.
+    pub fn next(&self, text: &[u8], from: usize) -> usize
+        requires { from ≤ length text.now }
+        ensures from { from ≤ result }
+        ensures within { result ≤ length text.now }
+    {
+        let mut bytes = text[from..].iter();
+        let skipped = match self.within {
+            Within::Plain => bytes.position(|byte| !matches!(*byte, b' ' | b'\n')),
+            Within::Scalar => bytes.position(|byte| ends_scalar(*byte)),
+            Within::String => bytes.position(|byte| matches!(*byte, b'"' | b'\\')),
+            Within::Escape => Some(0),
+        };
+        match skipped {
+            Some(skipped) => from + skipped,
+            None => text.len(),
+        }
     }
 
     /// Returns what ends before a byte. Only a number or a word does.
-    pub fn read_end(&mut self, at: usize, byte: u8) -> Ended {
-        if !matches!(self.within, Within::Scalar) {
-            return Ended::Nothing;
+    pub fn read_end(&mut self, at: usize, byte: u8) -> Option<Ended> {
+        if matches!(self.within, Within::Scalar) && ends_scalar(byte) {
+            return self.end(at);
         }
-        match byte {
-            b' ' | b'\t' | b'\r' | b'\n' | b',' | b']' | b'}' => self.end(at),
-            _ => Ended::Nothing,
-        }
+        None
     }
 
     /// Reads the byte at an offset, and returns what ends with it.
-    pub fn read(&mut self, at: usize, byte: u8) -> Ended {
+    pub fn read(&mut self, at: usize, byte: u8) -> Option<Ended> {
         match (self.within, byte) {
             (Within::Plain, _) => return self.read_plain(at, byte),
             (Within::Scalar, _) => {}
@@ -132,6 +154,6 @@ impl Walk {
             (Within::String, b'"') => return self.end(at.saturating_add(1)),
             (Within::String, _) => {}
         }
-        Ended::Nothing
+        None
     }
 }

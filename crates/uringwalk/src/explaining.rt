@@ -1,11 +1,11 @@
 //! The `explain` subcommand: the findings of one run or of several.
 
 use crate::WHOLE_TRACE_AND_ONE;
-use crate::input::read_input;
+use crate::input::{is_standard_input, read_input};
 use crate::output::{Output, write_text};
 use crate::reporting::Failure;
-use debug_server::{Fault, RunFault};
-use explanations::{Explanation, Request, explain_run, named_fault, named_report};
+use debug_server::{Fault, ReportForm, RunFault};
+use explanations::{Explanation, Form, Request, explain_run, named_fault, named_report};
 use finding_kinds::Kind;
 use std::alloc::{AllocError, Global};
 use std::process::ExitCode;
@@ -64,6 +64,21 @@ pub(crate) fn kinds_of(alloc: Global, words: &[&str]) -> Result<Vec<Kind>, Alloc
     Ok(kinds)
 }
 
+fn is_json(request: Request<'_>) -> bool {
+    matches!(request.form, Form::Json)
+}
+
+// Returns the form of a report. Only a file has locations in a SARIF log.
+fn form_of<'a>(form: ReportForm, runs: &[&'a str]) -> Form<'a> {
+    match form {
+        ReportForm::Text => Form::Text,
+        ReportForm::Json => Form::Json,
+        ReportForm::Sarif => {
+            Form::Sarif(runs.first().copied().filter(|run| !is_standard_input(run)))
+        }
+    }
+}
+
 // Reads a run, and returns its report.
 fn explanation_of(
     rt: &(impl Files + Input + AllocGlobal),
@@ -117,11 +132,11 @@ fn named_text(
     match explanation_of(rt, run, request) {
         Ok(explanation) => {
             let report = explanation.text.as_str();
-            let text = named_report(alloc, run, report, request.json);
+            let text = named_report(alloc, run, report, is_json(request));
             (text, Ending::from_report(explanation.is_faulty))
         }
         Err(failure) => (
-            text_of_failure(alloc, run, &failure, request.json),
+            text_of_failure(alloc, run, &failure, is_json(request)),
             Ending::Failed,
         ),
     }
@@ -146,13 +161,13 @@ fn explain_each<R: Files + Input + Print + AllocGlobal>(
     let mut output = Output::new(rt);
     let mut ending = Ending::Fine;
     for (index, run) in runs.iter().enumerate() {
-        let before = text_before(index, request.json);
+        let before = text_before(index, is_json(request));
         write_text(&mut output, String::from_str(rt.alloc(), before))?;
         let (text, end) = named_text(rt, *run, request);
         write_text(&mut output, text)?;
         ending = ending.or_worse(end);
     }
-    if request.json {
+    if is_json(request) {
         write_text(&mut output, String::from_str(rt.alloc(), "\n]\n"))?;
     }
     Ok(ending.status())
@@ -166,7 +181,7 @@ pub fn explain_files<R: Files + Input + Print + Eprint + AllocGlobal>(
     runs: &[&str],
     kinds: &[&str],
     allowed: &[&str],
-    json: bool,
+    form: ReportForm,
 ) -> Result<ExitCode, Fault> {
     let Ok(kinds) = kinds_of(rt.alloc(), kinds) else {
         return Err(Fault::Run(RunFault::Memory));
@@ -177,7 +192,7 @@ pub fn explain_files<R: Files + Input + Print + Eprint + AllocGlobal>(
     let request = Request {
         kinds: &kinds,
         allowed: &allowed,
-        json,
+        form: form_of(form, runs),
     };
     match runs {
         [run] => explain_one(rt, *run, request),

@@ -1,4 +1,4 @@
-use Rattle.std.proofs.Common.{◌≡◌, take}
+use Rattle.std.proofs.Common.{◌≤◌, take}
 use Rattle.script.specs.Instructions.{instruction_at}
 use Rattle.source_map.specs.Maps.{AreItems}
 use Rattle.source_map.specs.Positions.{IsCursor}
@@ -9,5 +9,5 @@ abbrev pub invariant-loop-i : goal.invariant-loop-i
 invariant-loop-i l = record {
   items : AreItems (instruction_at l.size l.thread) l.text 0 0 l.items.items (take l.i l.program);
   cursor : IsCursor l.text l.cursor;
-  offset : l.cursor.offset ≡ end_of 0 l.items.items;
+  offset : end_of 0 l.items.items ≤ l.cursor.offset;
 }

@@ -16,6 +16,10 @@ loop-i-preserved c =
     let count : length (take i threads) ≡ i = length-take-le i threads (omega arith) in
     let here : AreItems (instruction_at size i) text 0 0 c.in-Some.items c.index-threads-i.result = search rules in
     let more : c.push.new.self.items ≡ c.loop-i.located.items ++ c.in-Some.items ∷ [] = search rules in
-    subst (λ ls. AreThreads size text 0 ls (take (i + 1) threads)) (sym more)
-    (subst (AreThreads size text 0 (c.loop-i.located.items ++ c.in-Some.items ∷ [])) (sym taken)
-    (threads_more size text 0 i c.loop-i.located.items (take i threads) c.in-Some.items c.index-threads-i.result c.loop-i.invariant (omega arith) here))
+    record {
+      items =
+          subst (λ ls. AreThreads size text 0 ls (take (i + 1) threads)) (sym more)
+          (subst (AreThreads size text 0 (c.loop-i.located.items ++ c.in-Some.items ∷ [])) (sym taken)
+          (threads_more size text 0 i c.loop-i.located.items (take i threads) c.in-Some.items c.index-threads-i.result c.loop-i.invariant.items (omega arith) here));
+      cursor = search rules;
+    }

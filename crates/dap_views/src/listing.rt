@@ -1,18 +1,16 @@
 //! The variables of a container.
-ghost use Rattle.std.specs.Prelude.{◌≡◌, ◌++◌, List, IfOk, OnOk, All, map, length, ◌<◌, true, false};
-ghost use Rattle.machine.specs.Whole.{view};
-ghost use Rattle.inverse_log.specs.Walks.{here};
+ghost use Rattle.std.specs.Prelude.{◌≡◌, ◌++◌, List, IfOk, OnOk, map, true, false};
+ghost use Rattle.run_log.specs.Lines.{rows};
 ghost use Rattle.dap_views.specs.Children.{is_indexed};
-ghost use Rattle.dap_views.specs.Pages.{on_page, rest_of};
-ghost use Rattle.dap_views.specs.Variables.{AreChanges, AreVariables, child_variable, report_variable, report_variables, row_variable, variables_in};
-ghost use Rattle.dap_views.specs.declared.container.Container.TheVariants.{Changes, Findings};
+ghost use Rattle.dap_views.specs.Pages.{IsPage, excludes, page_of, rest_of};
+ghost use Rattle.dap_views.specs.Variables.{AreVariables, child_variable, report_variable, report_variables, row_variable, variables_in};
 ghost use Rattle.dap_views.specs.declared.variable.Variable.{Variable};
 
 use crate::changes::{changes_at, row_variable, rows_of};
 use crate::children::{Child, named_children, numbered_children};
 use crate::container::Container;
 use crate::counts::{count_of, is_indexed};
-use crate::pages::{Page, Window, window};
+use crate::pages::{Page, Window, excludes, window_of};
 use crate::reports::{report_variable, shown};
 use crate::variable::{Variable, bytes_of, child_variable, plain_variable};
 use explanations::Report;
@@ -58,7 +56,6 @@ fn variables_of_rows(
     rows: &[&[Changed]],
     rest: usize,
 ) -> Result<Items<Variable>, AllocError>
-    requires { All (λ row. 0 < length row.now) rows.now }
     ensures { IfOk result (λ vs. vs
         ≡ map (λ row. row_variable setup.now row.now) rows.now ++ rest_of rest) }
 {
@@ -86,6 +83,8 @@ fn variables_of_reports(
     Ok(Items::from_vec(list))
 }
 
+// Returns the variables on a page of a container whose children are numbered.
+#[tactic(auto, unfolding(crate::specs::Variables::variables_in, crate::specs::Children::children))]
 fn numbered_variables(
     alloc: Global,
     walker: &Walker,
@@ -93,16 +92,17 @@ fn numbered_variables(
     page: Page,
 ) -> Result<Items<Variable>, AllocError>
     requires { is_indexed container ≡ true }
-    ensures { IfOk result (λ vs. vs
-        ≡ on_page container page (variables_in walker.now container)) }
+    ensures { IfOk result (λ vs. vs ≡ page_of page (variables_in walker.now container)) }
 {
     let (setup, state) = (walker.setup(), walker.state());
     let count = count_of(setup, state, container);
-    let Window { from, to, rest } = window(container, page, count as usize);
+    let Window { from, to, rest } = window_of(page, count as usize);
     let children = numbered_children(alloc, container, from as u32, to as u32)?;
     variables_of_children(alloc, setup, state, &children, rest)
 }
 
+// Returns the variables on a page of a container whose children have names.
+#[tactic(auto, unfolding(crate::specs::Variables::variables_in, crate::specs::Children::children))]
 fn named_variables(
     alloc: Global,
     walker: &Walker,
@@ -110,46 +110,61 @@ fn named_variables(
     page: Page,
 ) -> Result<Items<Variable>, AllocError>
     requires { is_indexed container ≡ false }
-    ensures { IfOk result (λ vs. vs
-        ≡ on_page container page (variables_in walker.now container)) }
+    ensures { IfOk result (λ vs. vs ≡ page_of page (variables_in walker.now container)) }
 {
     let (setup, state) = (walker.setup(), walker.state());
     let children = named_children(alloc, setup, state, container)?;
-    let Window { from, to, rest } = window(container, page, children.len());
+    let Window { from, to, rest } = window_of(page, children.len());
     variables_of_children(alloc, setup, state, &children[from..to], rest)
 }
 
-fn change_variables(
+// Returns the variables on a page of a container other than changes and findings.
+fn child_variables(
     alloc: Global,
     walker: &Walker,
+    container: Container,
     page: Page,
 ) -> Result<Items<Variable>, AllocError>
-    ensures { IfOk result (λ vs. (all : List Variable) × AreChanges walker.now all
-        × (vs ≡ on_page Changes page all)) }
+    ensures { IfOk result (λ vs. vs ≡ page_of page (variables_in walker.now container)) }
 {
-    let changes = changes_at(alloc, walker)?;
-    let rows = rows_of(alloc, &changes)?;
-    let Window { from, to, rest } = window(Container::Changes, page, rows.len());
-    variables_of_rows(alloc, walker.setup(), &rows[from..to], rest)
+    if is_indexed(container) {
+        numbered_variables(alloc, walker, container, page)
+    } else {
+        named_variables(alloc, walker, container, page)
+    }
 }
 
-fn report_variables(
+// Returns the lines of changes on a page.
+fn change_variables(
+    alloc: Global,
+    setup: &Setup,
+    changes: &[Changed],
+    page: Page,
+) -> Result<Items<Variable>, AllocError>
+    ensures { IfOk result (λ vs. vs
+        ≡ page_of page (map (row_variable setup.now) (rows changes.now))) }
+{
+    let rows = rows_of(alloc, changes)?;
+    let Window { from, to, rest } = window_of(page, rows.len());
+    variables_of_rows(alloc, setup, &rows[from..to], rest)
+}
+
+// Returns the findings on a page.
+fn finding_variables(
     alloc: Global,
     walker: &Walker,
     reports: &[Report],
     page: Page,
 ) -> Result<Items<Variable>, AllocError>
-    ensures { IfOk result (λ vs. vs
-        ≡ on_page Findings page (report_variables walker.now reports.now)) }
+    ensures { IfOk result (λ vs. vs ≡ page_of page (report_variables walker.now reports.now)) }
 {
     let list = shown(alloc, walker, reports)?;
-    let Window { from, to, rest } = window(Container::Findings, page, list.len());
+    let Window { from, to, rest } = window_of(page, list.len());
     variables_of_reports(alloc, &list[from..to], rest)
 }
 
-/// Returns the variables of a container that are on a page, at the position of the walker.
-/// `reports` are the findings of the run; only `Findings` uses them.
-pub fn variables(
+// Returns the variables on a page of a container that the page's filter doesn't leave out.
+fn page_variables(
     alloc: Global,
     walker: &Walker,
     reports: &[Report],
@@ -157,13 +172,32 @@ pub fn variables(
     page: Page,
 ) -> Result<Items<Variable>, AllocError>
     ensures { IfOk result (λ vs. (all : List Variable)
-        × AreVariables walker.now reports.now container all
-        × (vs ≡ on_page container page all)) }
+        × AreVariables walker.now reports.now container all × (vs ≡ page_of page all)) }
 {
     match container {
-        Container::Changes => change_variables(alloc, walker, page),
-        Container::Findings => report_variables(alloc, walker, reports, page),
-        container if is_indexed(container) => { numbered_variables(alloc, walker, container, page) }
-        container => named_variables(alloc, walker, container, page),
+        Container::Changes => {
+            let changes = changes_at(alloc, walker)?;
+            change_variables(alloc, walker.setup(), &changes, page)
+        }
+        Container::Findings => finding_variables(alloc, walker, reports, page),
+        container => child_variables(alloc, walker, container, page),
     }
+}
+
+/// Returns the variables of a container that are on a page, at the position of the walker.
+/// `reports` are the findings of the run; only `Findings` needs them.
+pub fn variables(
+    alloc: Global,
+    walker: &Walker,
+    reports: &[Report],
+    container: Container,
+    page: Page,
+) -> Result<Items<Variable>, AllocError>
+    ensures { IfOk result (λ vs. IsPage (excludes page.filter container)
+        (AreVariables walker.now reports.now container) page vs) }
+{
+    if excludes(page.filter, container) {
+        return Ok(Items::new(alloc));
+    }
+    page_variables(alloc, walker, reports, container, page)
 }

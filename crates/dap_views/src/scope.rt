@@ -36,7 +36,7 @@ pub(crate) fn scope_name(scope: Container) -> &'static str
     }
 }
 
-/// Returns whether an editor shall not open a scope of its own accord.
+/// Returns whether an editor opens a scope only on request.
 pub(crate) fn is_expensive(scope: Container) -> bool
     ensures { result ≡ is_expensive scope }
 {

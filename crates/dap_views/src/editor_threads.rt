@@ -47,6 +47,7 @@ pub fn thread_id(setup: &Setup, thread: EditorThread) -> u64
 }
 
 /// Returns the thread with a number.
+#[tactic(auto, unfolding(crate::specs::Threads::thread_of))]
 pub fn thread_of(setup: &Setup, id: u64) -> Option<EditorThread>
     ensures { result ≡ thread_of setup.now id }
 {
