@@ -99,10 +99,9 @@ with_memory v ms =
 unfoldable pub variable_data : Variable → Data
 variable_data v = object
     (with_children v
-    (with_memory v
-    (with_expression v
     (with (codes "value") (text_data v.value)
-    (with (codes "name") (text_data v.name) no_members)))))
+    (with (codes "name") (text_data v.name)
+    (with_memory v (with_expression v no_members)))))
 
 -- The body of the response to `variables`.
 unfoldable pub variables_body : List Variable → Data

@@ -172,10 +172,11 @@ pub fn variable_value(alloc: Global, variable: &Variable) -> Result<Value, Alloc
     ensures { IfOk result (λ v. view v ≡ variable_data variable.now) }
 {
     let mut members = Map::new(alloc);
-    put_text(alloc, &mut members, "name", variable.name.as_slice())?;
-    put_text(alloc, &mut members, "value", variable.value.as_slice())?;
+    // A map takes members in the order of their names in the least time.
     put_expression(alloc, &mut members, variable)?;
     put_memory(alloc, &mut members, variable)?;
+    put_text(alloc, &mut members, "name", variable.name.as_slice())?;
+    put_text(alloc, &mut members, "value", variable.value.as_slice())?;
     put_children(alloc, &mut members, variable)?;
     Ok(Value::Object(members))
 }
