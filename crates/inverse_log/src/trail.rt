@@ -177,14 +177,33 @@ impl Trail {
             Some(room) => copy.restore(self.alloc, room)?,
             None => copy.to_state(self.alloc)?,
         };
-        self.state.exchange(&mut state);
+        let gone = self.on_from_state(&mut state, from, to, tally);
+        self.spare = Some(state);
+        gone
+    }
+
+    // Exchanges the state with that of moment `from`, and goes to the moment `to` by single steps.
+    // If an allocation fails, both are exchanged back.
+    fn on_from_state(
+        &mut self,
+        state: &mut State,
+        from: usize,
+        to: usize,
+        tally: Tally,
+    ) -> Result<(), AllocError>
+        requires state { state.old ≡ moment self.old.setup self.old.events from }
+        requires later { from ≤ to }
+        requires within { to ≤ length self.old.events }
+        ensures ok { OnOk result (self.new ≡ reached tally self.old to (to - from)) }
+        ensures err { OnErr result (self.new ≡ self.old) }
+    {
+        self.state.exchange(state);
         let at = mem::replace(&mut self.at, from);
         let gone = self.on_to(to, tally);
         if gone.is_err() {
-            self.state.exchange(&mut state);
+            self.state.exchange(state);
             self.at = at;
         }
-        self.spare = Some(state);
         gone
     }
 

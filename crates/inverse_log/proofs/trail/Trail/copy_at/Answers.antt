@@ -1,4 +1,4 @@
-use Rattle.std.proofs.Common.{◌≡◌, ◌∙◌, length, ap, sym}
+use Rattle.std.proofs.Common.{◌≡◌, ◌∙◌, length, ap, sym, refl}
 use Rattle.machine.specs.Runs.{moment}
 use Rattle.inverse_log.specs.Tracks.{Track}
 use Rattle.inverse_log.proofs.Copying.{none_due, one_due}
@@ -13,4 +13,4 @@ returns-in_ok-push c =
 pub returns-else-self-every-eq0 : goal.returns-else-self-every-eq0
 returns-else-self-every-eq0 c =
     let at : c.self.inside.at ≡ length c.args.self.now.events = ap (λ (t : Track). t.at) c.self.view_is ∙ c.requires.last in
-    record { same = c.self.view_is; covers = none_due c.args.self.now c.self.inside.at c.args.every c.args.copies.now.items at c.if-self-every-eq0.false }
+    record { same = refl; covers = none_due c.args.self.now c.self.inside.at c.args.every c.args.copies.now.items at c.if-self-every-eq0.false }

@@ -1,4 +1,4 @@
-use Rattle.std.proofs.Common.{◌≡◌, ◌∙◌, ◌+◌, ◌-◌, ◌/◌, ◌≤◌, arith, length, ap, sym, rules}
+use Rattle.std.proofs.Common.{◌≡◌, ◌∙◌, ◌/◌, ◌≤◌, arith, length, ap, sym, rules}
 use Rattle.checkpoints.specs.Checkpoints.{nearest}
 use Rattle.machine.specs.Runs.{moment}
 use Rattle.inverse_log.specs.Tracks.{Track, tallied}
@@ -14,8 +14,8 @@ on_from-requires-clause-state c =
     let below = copy_there c.self.inside.trail.setup c.self.inside.trail.events c.self.inside.kept.every c.self.inside.kept.states c.args.moment c.self.invariant within in
     copy_of c.self.inside.trail.setup c.self.inside.trail.events c.self.inside.kept.every c.self.inside.kept.states (c.args.moment / c.self.inside.kept.every) c.state-copy.result.now c.self.invariant below c.state-copy.ensures ∙ ap (moment c.self.inside.trail.setup c.self.inside.trail.events) (sym c.nearest-nearest.ensures.value)
 
-pub returns-in_ok-state-clause-ok : goal.returns-in_ok-state-clause-ok
-returns-in_ok-state-clause-ok c =
+pub returns-else-nearest-at-clause-ok : goal.returns-else-nearest-at-clause-ok
+returns-else-nearest-at-clause-ok c =
     let at : c.at-at.result ≡ c.args.self.now.at = c.at-at.ensures.value in
     let later : c.nearest-nearest.result ≤ c.args.self.now.at → c.args.self.now.at ≤ c.args.moment → ⊥ = elim c.else-nearest-at.branch [ else-nearest-at-via-then-nearest-at+else-at-moment w ↦ λ a b. omega (arith, at, w.if-at-moment.false) | else-nearest-at-via-else-nearest-at w ↦ λ a b. omega (arith, at, w.if-nearest-at.false) ] in
     let steps = steps_from_copy c.args.self.now c.args.moment c.nearest-nearest.result (c.nearest-nearest.ensures.value ∙ ap (λ (w : Walk). nearest w.every c.args.moment) c.self.view_is) c.requires.far later in
@@ -25,8 +25,8 @@ returns-in_ok-state-clause-ok c =
     ∙ ap (λ (w : Walk). record w { at = c.args.moment; walked = tallied c.args.tally w.walked (steps_to c.args.self.now c.args.moment) }) c.self.view_is)
     c.on_from.ensures.ok
 
-pub returns-in_ok-state-clause-short : goal.returns-in_ok-state-clause-short
-returns-in_ok-state-clause-short c =
+pub returns-else-nearest-at-clause-short : goal.returns-else-nearest-at-clause-short
+returns-else-nearest-at-clause-short c =
     let at : c.at-at.result ≡ c.args.self.now.at = c.at-at.ensures.value in
     let later : c.nearest-nearest.result ≤ c.args.self.now.at → c.args.self.now.at ≤ c.args.moment → ⊥ = elim c.else-nearest-at.branch [ else-nearest-at-via-then-nearest-at+else-at-moment w ↦ λ a b. omega (arith, at, w.if-at-moment.false) | else-nearest-at-via-else-nearest-at w ↦ λ a b. omega (arith, at, w.if-nearest-at.false) ] in
     let steps = steps_from_copy c.args.self.now c.args.moment c.nearest-nearest.result (c.nearest-nearest.ensures.value ∙ ap (λ (w : Walk). nearest w.every c.args.moment) c.self.view_is) c.requires.far later in
