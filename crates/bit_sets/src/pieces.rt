@@ -3,8 +3,8 @@ ghost use Rattle.std.specs.Prelude.{◌≡◌, IfOk};
 
 use std::alloc::{AllocError, Global};
 
-/// Elements copied at once: at most 1,920 bytes. glibc copies more than 2,048 bytes or so, depending
-/// on the processor, with `rep movsb`, which callgrind counts as an instruction per byte.
+/// Elements copied at once: at most 1,920 bytes. glibc copies more than 2,048 bytes or so,
+/// depending on the processor, with `rep movsb`, which callgrind counts as an instruction per byte.
 const PIECE: usize = 240;
 
 /// Copies the elements.

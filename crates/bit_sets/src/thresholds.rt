@@ -13,8 +13,8 @@ pub const NEVER: u32 = u32::MAX;
 /// How many numbers share one minimum.
 const BLOCK: usize = 256;
 
-/// A threshold for each number below 65,536: `NEVER` past the end of the list. Contracts see it as the
-/// list of thresholds.
+/// A threshold for each number below 65,536: `NEVER` past the end of the list. Contracts see it as
+/// the list of thresholds.
 #[derive(Drop)]
 pub struct Thresholds {
     each: Vec<u32>,

@@ -6,8 +6,8 @@ use machine::Snapshot;
 use std::alloc::{AllocError, Global};
 use std::marker::Model;
 
-/// Checkpoints: copies of the states at moments 0, `every`, 2 * `every` and so on. It also stores `window`,
-/// the greatest distance that a jump goes back by undoing single steps.
+/// Checkpoints: copies of the states at moments 0, `every`, 2 * `every` and so on. It also stores
+/// `window`, the greatest distance that a jump goes back by undoing single steps.
 ///
 /// The list does not know the run: its caller adds the right states in order.
 #[derive(Drop)]
@@ -62,8 +62,8 @@ impl Kept {
         self.states.len()
     }
 
-    /// Appends copies of the states at the next multiples of `every`, in order. If the allocation fails, the
-    /// list stays as it was and the copies are dropped.
+    /// Appends copies of the states at the next multiples of `every`, in order. If the allocation
+    /// fails, the list stays as it was and the copies are dropped.
     pub fn keep(&mut self, mut states: Vec<Snapshot>) -> Result<(), AllocError>
         ensures ok { OnOk result (self.new
             ≡ record self.old { states = self.old.states ++ states.items }) }

@@ -101,7 +101,8 @@ fn of_descriptors(alloc: Global, setup: &Setup) -> Result<Vec<Child>, AllocError
 }
 
 fn of_world(alloc: Global, setup: &Setup) -> Result<Vec<Child>, AllocError>
-    ensures { IfOk result (λ list. list.items ≡ object_list setup.now ++ descriptor_list setup.now) }
+    ensures { IfOk result (λ list. list.items
+        ≡ object_list setup.now ++ descriptor_list setup.now) }
 {
     let mut list = of_objects(alloc, setup)?;
     let descriptors = of_descriptors(alloc, setup)?;

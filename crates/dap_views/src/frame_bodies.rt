@@ -93,7 +93,8 @@ fn put_source(
     client: InitializeArguments,
 ) -> Result<(), AllocError>
     ensures { OnOk result (members_view members.new.entries
-        ≡ with_source client frame.now (option_map view source) (members_view members.old.entries)) }
+        ≡ with_source client frame.now (option_map view source)
+        (members_view members.old.entries)) }
 {
     match source {
         Some(source) => {
@@ -113,7 +114,8 @@ pub fn frame_value(
     source: Option<Value>,
     client: InitializeArguments,
 ) -> Result<Value, AllocError>
-    ensures { IfOk result (λ v. view v ≡ frame_data client setup.now frame.now (option_map view source)) }
+    ensures { IfOk result (λ v. view v
+        ≡ frame_data client setup.now frame.now (option_map view source)) }
 {
     let moment = frame.moment;
     let address = format!(in alloc; "{moment}")?;

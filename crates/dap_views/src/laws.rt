@@ -22,7 +22,8 @@ pub fn references_are_exact()
 
 /// A thread is found by its number.
 pub fn numbers_name_threads()
-    ensures { (s : Setup) (t : EditorThread) → HasThread s t → thread_of s (thread_id s t) ≡ Some t }
+    ensures { (s : Setup) (t : EditorThread) → HasThread s t
+        → thread_of s (thread_id s t) ≡ Some t }
 {}
 
 /// The value of a place is what the session prints for `show` at the same position.

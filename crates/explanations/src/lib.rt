@@ -1,4 +1,4 @@
-//! Reports the findings of a run with their sentences, as text, as JSON, as a SARIF log, or as a list.
+//! Reports the findings of a run with their sentences: as text, JSON, a SARIF log, or a list.
 #![tactic(auto)]
 
 mod explaining;

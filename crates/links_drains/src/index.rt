@@ -88,8 +88,8 @@ impl Index {
         self.thresholds.write(r, threshold_of(row));
     }
 
-    /// Drops the requests after those that are left, up to number n, in time linear in how many they
-    /// are.
+    /// Drops the requests after those that are left, up to number n, in time linear in how many
+    /// they are.
     pub(crate) fn cut(&mut self, rows: &Rows, n: usize)
         requires cut { (before : List Row) × Indexed before self.old × (length before ≡ n)
             × (rows.now ≡ take (length rows.now) before) }

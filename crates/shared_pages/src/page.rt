@@ -28,7 +28,8 @@ impl<T> Model for Page<T> {
 
     ghost view = { λ a. shown a.is_lent (option_map (λ s. s.value.items) a.shared) a.own.items };
 
-    ghost invariant = { λ a. IsWhole a.is_lent (option_map (λ s. s.value.items) a.shared) a.own.items };
+    ghost invariant = { λ a. IsWhole a.is_lent (option_map (λ s. s.value.items) a.shared)
+        a.own.items };
 }
 
 impl<T: Copy> Page<T> {
@@ -144,7 +145,8 @@ impl<T: Copy> Page<T> {
 // Copies shared contents to a page's own storage, if they are what it shows.
 fn fill<T: Copy>(own: &mut Vec<T>, is_lent: bool, shared: &Option<Arc<Vec<T>>>)
     requires { IsWhole is_lent (option_map (λ s. s.value.items) shared.now) own.old.items }
-    ensures { own.new.items ≡ shown is_lent (option_map (λ s. s.value.items) shared.now) own.old.items }
+    ensures { own.new.items
+        ≡ shown is_lent (option_map (λ s. s.value.items) shared.now) own.old.items }
 {
     if !is_lent {
         return;
