@@ -64,7 +64,7 @@ _uringwalk_after() {
     fi
 }
 
-_uringwalk_words="walk check trace migrate replay log explain timeline explore schedule live serve help"
+_uringwalk_words="walk check trace migrate replay log explain timeline explore schedule live serve dap help"
 
 _uringwalk() {
     local current=$2 word="" option="" files=0 typed=("${COMP_WORDS[@]:1:COMP_CWORD-1}") it

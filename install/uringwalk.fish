@@ -26,8 +26,9 @@ complete -c uringwalk -n __uringwalk_has_no_word -a explore -d 'Look for a sched
 complete -c uringwalk -n __uringwalk_has_no_word -a schedule -d 'Put a trace\'s events into a script'
 complete -c uringwalk -n __uringwalk_has_no_word -a live -d 'Run a script\'s threads side by side'
 complete -c uringwalk -n __uringwalk_has_no_word -a serve -d 'Run a script\'s threads for clients'
+complete -c uringwalk -n __uringwalk_has_no_word -a dap -d 'Serve an editor as a debug adapter'
 complete -c uringwalk -n __uringwalk_has_no_word -a help -d 'Print the usage of the program or of a word'
-complete -c uringwalk -n '__uringwalk_word_is help' -a 'walk check trace migrate replay log explain timeline explore schedule live serve'
+complete -c uringwalk -n '__uringwalk_word_is help' -a 'walk check trace migrate replay log explain timeline explore schedule live serve dap'
 
 # The files. Where a script is expected, names that end in .json come first.
 complete -c uringwalk -n '__uringwalk_word_is walk check trace migrate explore schedule live serve' -k -a '(__fish_complete_suffix .json)'

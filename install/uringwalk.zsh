@@ -15,6 +15,7 @@ _uringwalk_words() {
     "schedule:put a trace's events into a script as its schedule"
     "live:run a script's threads side by side, and answer commands"
     "serve:run a script's threads side by side, and answer commands of clients"
+    'dap:serve an editor as a debug adapter'
     'help:print the usage of the program or of a word'
   )
   _describe -t words word words
@@ -92,6 +93,7 @@ _uringwalk() {
         '--port=[the port to listen on, 1 to 65535]:port' \
         '--clients=[how many sessions to end after, 1 to 1000000]:sessions' "1:script:$script"
       ;;
+    dap) _arguments $usage ;;
     help) _arguments '1:word:_uringwalk_words' ;;
   esac
 }

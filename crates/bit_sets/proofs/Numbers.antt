@@ -1,10 +1,11 @@
 -- Lemmas for finding the next number of a set by its words and their summary.
-use Rattle.std.proofs.Common.{◌≡◌, ℕ, ◌+◌, ◌*◌, ◌/◌, ◌%◌, ◌<◌, ◌≤◌, true, false, not, cond, ◌==◌, List, [], ◌∷◌, ◌++◌, length, get_or, take, set, replicate, refl, sym, ◌∙◌, inl, inr, arith}
+use Rattle.std.proofs.Common.{◌≡◌, ℕ, ◌+◌, ◌*◌, ◌/◌, ◌%◌, ◌<◌, ◌≤◌, true, false, not, cond, ◌==◌, List, [], ◌∷◌, ◌++◌, length, get_or, set, replicate, take, refl, sym, ap, ◌∙◌, inl, inr, arith}
+use Rattle.std.specs.Prelude.{Option, Some, None, IfSome, IfNone}
 use Rattle.std.specs.Int.{bit_at}
 use Rattle.std.proofs.lemmas.Bool.{cases_eq, cases_lt, not-false, not-true, eqb-true, eqb-false, eq-eqb, ne_eqb}
-use Rattle.std.proofs.lemmas.List.{get_or-set_same, get_or-set_other, get_or_past, get_or-take, get_or-replicate, length-replicate, length-set, length-take}
+use Rattle.std.proofs.lemmas.List.{get_or-set_same, get_or-set_other, get_or-take, length-take-le, get_or_past, get_or-replicate, length-replicate, length-set}
 use Rattle.std.proofs.lemmas.Nat.Bits.{bit_at-zero, same_from_bits}
-use Rattle.bit_sets.proofs.Bits.{none_in_zero, no_bits, has_past, has_grown as words_grown}
+use Rattle.bit_sets.proofs.Bits.{has_past, none_in_zero, no_bits, has_grown as words_grown}
 use Rattle.bit_sets.specs.Sets.{has, IsNextBit, IsNext, NoneFrom, Summed}
 
 -- ---- One number
@@ -42,26 +43,6 @@ summed_written words summary after at word s within l h = record {
     | inl same ↦ h w ∙ rw (same, eq-eqb at at refl, get_or-set_same words at word 0 within) refl
     | inr other ↦ h w ∙ rw (ne_eqb w at other, get_or-set_other words at w word 0 other) (s.sums w)
   ];
-}
-
--- The words of the summary behind those in use have no bit.
-has_used : (words summary : List ℕ) (n w : ℕ) → Summed words summary → length words ≤ 64 * n → has (take n summary) w ≡ has summary w
-unfolding has
-has_used words summary n w s all = elim (cases_lt (w / 64) n) [
-  | inl inside ↦ rw (get_or-take n summary (w / 64) 0 inside) refl
-  | inr past ↦
-      let zero : get_or words w 0 ≡ 0 = get_or_past words w 0 (omega arith) in
-      has_past (take n summary) w (omega (arith, length-take n summary)) ∙ sym (s.sums w ∙ rw zero refl)
-]
-
-pub none_used : (words summary : List ℕ) (n from : ℕ) → Summed words summary → length words ≤ 64 * n → NoneFrom (take n summary) from → NoneFrom summary from
-none_used words summary n from s all none w low = sym (has_used words summary n w s all) ∙ none w low
-
-pub next_used : (words summary : List ℕ) (n from w : ℕ) → Summed words summary → length words ≤ 64 * n → IsNext (take n summary) from w → IsNext summary from w
-next_used words summary n from w s all next = record {
-  after = next.after;
-  member = sym (has_used words summary n w s all) ∙ next.member;
-  least = λ v low high. sym (has_used words summary n v s all) ∙ next.least v low high;
 }
 
 -- ---- The next number
@@ -136,5 +117,36 @@ word_not_zero words summary w s member none =
     eqb-false (get_or words w 0) 0 (not-true _ (sym (s.sums w) ∙ member))
     (same_from_bits (get_or words w 0) 0 (λ b. none b (omega arith) ∙ sym (bit_at-zero b)))
 
-pub used_within : (words summary : List ℕ) (n from w : ℕ) → Summed words summary → length words ≤ 64 * n → IsNext (take n summary) from w → w < length words
-used_within words summary n from w s all next = word_there words summary w s (next_used words summary n from w s all next).member
+-- There is no word past the end.
+pub no_word : (words summary : List ℕ) (w : ℕ) → Summed words summary → length words ≤ w → has summary w ≡ false
+no_word words summary w s past = s.sums w ∙ ap (λ n. not (n == 0)) (get_or_past words w 0 past)
+
+-- ---- The first words of a set
+
+pub has_first : (words : List ℕ) (n i : ℕ) → i < 64 * n → has (take n words) i ≡ has words i
+unfolding has
+has_first words n i less = ap (λ w. bit_at w (i % 64) == 1) (get_or-take n words (i / 64) 0 (omega (arith, less)))
+
+pub has_rest : (words : List ℕ) (n i : ℕ) → n ≤ length words → 64 * n ≤ i → has (take n words) i ≡ false
+has_rest words n i within past = has_past (take n words) i (let l = length-take-le n words within in omega (arith, l, past))
+
+pub next_first : (words : List ℕ) (n from k : ℕ) → n ≤ length words → IsNext (take n words) from k → IsNext words from k
+next_first words n from k within next = elim (cases_lt k (64 * n)) [
+  | inl less ↦ record {
+    after = next.after;
+    member = sym (has_first words n k less) ∙ next.member;
+    least = λ i low high. sym (has_first words n i (omega (arith, high, less))) ∙ next.least i low high;
+  }
+  | inr past ↦ absurd (let e = sym (has_rest words n k within past) ∙ next.member in cc)
+]
+
+pub none_first : (words : List ℕ) (n from : ℕ) → ((i : ℕ) → 64 * n ≤ i → has words i ≡ false) → NoneFrom (take n words) from → NoneFrom words from
+none_first words n from past none i low = elim (cases_lt i (64 * n)) [
+  | inl less ↦ sym (has_first words n i less) ∙ none i low
+  | inr more ↦ past i more
+]
+
+pub found_first : (words : List ℕ) (n from : ℕ) (o : Option ℕ) → n ≤ length words → ((i : ℕ) → 64 * n ≤ i → has words i ≡ false) → IfSome o (λ k. IsNext (take n words) from k) → IfNone o (NoneFrom (take n words) from)
+    → IfSome o (λ k. IsNext words from k) × IfNone o (NoneFrom words from)
+found_first words n from (Some k) within past some none = (next_first words n from k within some, none)
+found_first words n from None within past some none = (some, none_first words n from past none)

@@ -89,7 +89,7 @@ impl BitSet {
         if let Some(bit) = next_bit(self.words[first], from % 64) {
             return Some(first * 64 + bit);
         }
-        let at = next_number(&self.summary[..self.words.len().div_ceil(64)], first + 1)?;
+        let at = next_word(&self.summary, self.words.len(), first + 1)?;
         let bit = next_bit(self.words[at], 0)?;
         Some(at * 64 + bit)
     }
@@ -151,6 +151,18 @@ fn next_bit(word: u64, from: usize) -> Option<usize>
     } else {
         Some(high.trailing_zeros() as usize)
     }
+}
+
+// Returns the first word from `from` on that is not 0, given how many words there are. Reads the
+// summaries of those words alone.
+fn next_word(summary: &[u64], count: usize, from: usize) -> Option<usize>
+    requires short { length summary.now ≡ 16 }
+    requires few { count ≤ 1024 }
+    requires past { (w : ℕ) → count ≤ w → has summary.now w ≡ false }
+    ensures some { IfSome result (λ w. IsNext summary.now from w) }
+    ensures none { IfNone result (NoneFrom summary.now from) }
+{
+    next_number(&summary[..(count + 63) / 64], from)
 }
 
 // Returns the least number at or above `from` in a set given by its words. Used on the summary,

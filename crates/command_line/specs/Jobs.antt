@@ -4,7 +4,7 @@ use Rattle.command_line.specs.declared.task.Exploration.{Exploration}
 use Rattle.command_line.specs.declared.task.ReportForm.{ReportForm}
 use Rattle.command_line.specs.declared.task.ReportForm.TheVariants.{Text, Json, Sarif}
 use Rattle.command_line.specs.declared.task.Job.{Job}
-use Rattle.command_line.specs.declared.task.Job.TheVariants.{Walk, Replay, Log, Check, Explain, Timeline, Explore, Schedule, Live, Serve, Trace, Migrate}
+use Rattle.command_line.specs.declared.task.Job.TheVariants.{Walk, Replay, Log, Check, Explain, Timeline, Explore, Schedule, Live, Serve, Dap, Trace, Migrate}
 
 -- A file would be written to the path of the script that it is made from.
 abbrev pub LosesScript : Job → Type 0
@@ -19,6 +19,7 @@ LosesScript (Schedule script trace out) = out.now ≡ script.now
 LosesScript (Live script turns kernel None) = ⊥
 LosesScript (Live script turns kernel (Some out)) = out.now ≡ script.now
 LosesScript (Serve script port turns kernel clients) = ⊥
+LosesScript Dap = ⊥
 LosesScript (Trace script out form eager) = out.now ≡ script.now
 LosesScript (Migrate script trace out) = out.now ≡ script.now
 

@@ -15,6 +15,7 @@ pub enum Verb {
     Schedule,
     Live,
     Serve,
+    Dap,
 }
 
 /// The form of an argument or an option of a command.
@@ -92,6 +93,9 @@ const LIVE: &str =
 
 const SERVE: &str =
     "Runs the script's threads as live does, listens on 127.0.0.1, and prints port P. Each client has its own session, which begins without events: sync adds the events that the run has made so far. Up to 16 clients are served at once, and more wait. Example:\n  uringwalk serve examples/words_in_a_pipe/script.json --port 7001 --clients 1 &\n  sleep 1\n  printf 'sync\\nwhere\\nquit\\n' | nc 127.0.0.1 7001";
+
+const DEBUG_ADAPTER: &str =
+    "Speaks the Debug Adapter Protocol over standard input and output, for VS Code, Neovim, Emacs, Helix and other editors. The editor names the script or the trace when it launches, sets breakpoints, and steps and runs in both directions. Lost framing ends it with status 1. docs/EDITORS.md says how to set up an editor.";
 
 const SCRIPT: Operand = Operand {
     name: "SCRIPT",
@@ -428,7 +432,7 @@ const REPORT_WORDS: &[Word] = &[
     },
 ];
 
-// The commands that run threads.
+// The commands that run threads, and the one for editors.
 const THREAD_WORDS: &[Word] = &[
     Word {
         verb: Verb::Live,
@@ -466,6 +470,13 @@ const THREAD_WORDS: &[Word] = &[
                 shape: Shape::Number("clients"),
             },
         ],
+    },
+    Word {
+        verb: Verb::Dap,
+        name: "dap",
+        about: "Serve an editor as a debug adapter, over standard input and output",
+        after: DEBUG_ADAPTER,
+        operands: &[],
     },
 ];
 

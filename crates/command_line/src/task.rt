@@ -111,6 +111,8 @@ pub enum Job<'a> {
         /// 1 to 1000000.
         clients: Option<u32>,
     },
+    /// Serves an editor.
+    Dap,
     /// Writes the trace of a script's schedule, or of its eager run, to the file `out`.
     Trace {
         script: &'a str,

@@ -271,6 +271,7 @@ fn job_of<'a>(alloc: Global, verb: Verb, matches: &ArgMatches<'a>) -> Result<Job
         Verb::Explore => explore_of(alloc, matches)?,
         Verb::Live => live_of(matches),
         Verb::Serve => serve_of(matches),
+        Verb::Dap => Job::Dap,
     })
 }
 
@@ -302,7 +303,8 @@ fn loses_script(job: &Job<'_>) -> bool
         | Job::Timeline { .. }
         | Job::Explore(Exploration { out: None, .. })
         | Job::Live { out: None, .. }
-        | Job::Serve { .. } => false,
+        | Job::Serve { .. }
+        | Job::Dap => false,
     }
 }
 

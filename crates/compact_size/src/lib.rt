@@ -241,6 +241,7 @@ fn put_eight(out: &mut Vec<u8>, number: u64) -> Result<(), AllocError>
 }
 
 /// Appends numbers. If an allocation fails, some of them may have been appended.
+#[inline(always)]
 pub fn put_numbers(out: &mut Vec<u8>, numbers: &[u64]) -> Result<(), AllocError>
     ensures { OnOk result (Puts number_of after out.old.items numbers.now out.new.items) }
 {

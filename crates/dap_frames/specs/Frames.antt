@@ -44,3 +44,7 @@ pub record Begins (stream : List ℕ) (bodies : List (List ℕ)) : Type 0 where
   pub rest : List ℕ
   pub whole : stream ≡ flat_map (λ f. f) frames ++ rest
   pub each : AreFrames frames bodies
+
+-- The number of bytes of the longest body that is written.
+abbrev pub most_written : ℕ
+most_written = 16777216

@@ -8,7 +8,7 @@ use std::alloc::{AllocError, Global};
 use std::marker::Model;
 use std::mem;
 
-pub(crate) const MOST_BODY_BYTES: usize = 1_048_576;
+const MOST_BODY_BYTES: usize = 1_048_576;
 
 const MOST_HEADER_BYTES: usize = 1024;
 /// The name of the field that has the length, which is matched in any case.

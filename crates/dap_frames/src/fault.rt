@@ -26,7 +26,7 @@ pub enum FrameFault {
 pub enum WriteFault {
     /// An allocation failed.
     Memory,
-    /// The body has more than 1,048,576 bytes.
+    /// The body has more than 16,777,216 bytes.
     BodyTooLong,
 }
 

@@ -131,18 +131,21 @@ with_end client (Some p) ms =
     with (codes "endColumn") (number_data (counted client.columns_start_at_1 p.column))
     (with (codes "endLine") (number_data (counted client.lines_start_at_1 p.line)) ms)
 
-unfoldable pub with_range : InitializeArguments → Option SourceRange → Members → Members
-with_range client None ms = with_start client None ms
-with_range client (Some r) ms = with_end client r.end (with_start client (Some r) ms)
+unfoldable pub with_range : InitializeArguments → SourceRange → Members → Members
+with_range client r ms = with_end client r.end (with_start client (Some r) ms)
 
--- The source, and where in it the frame is. Without a source, the line and the column are 0.
-unfoldable pub with_source : InitializeArguments → Frame → Option Data → Members → Members
-with_source client f None ms = with_start client None ms
-with_source client f (Some source) ms = with_range client f.range (with (codes "source") source ms)
+-- The source, and where in it a frame is. A frame that is nowhere in it has no source, line 0 and
+-- column 0.
+unfoldable pub with_source :
+    InitializeArguments → Option SourceRange → Option Data → Members → Members
+with_source client range None ms = with_start client None ms
+with_source client None (Some source) ms = with_start client None ms
+with_source client (Some r) (Some source) ms =
+    with_range client r (with (codes "source") source ms)
 
 unfoldable pub frame_data : InitializeArguments → Setup → Frame → Option Data → Data
 frame_data client s f source = object
-    (with_source client f source
+    (with_source client f.range source
     (with (codes "instructionPointerReference") (text_data (decimal f.moment))
     (with (codes "name") (text_data f.name)
     (with (codes "id") (number_data (thread_id s f.thread)) no_members))))

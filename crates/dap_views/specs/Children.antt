@@ -104,7 +104,8 @@ thread_places thread.Kernel = place.Clock ∷ place.Counted ∷ []
 abbrev pub ring_children : List Child
 ring_children =
     of_places (place.SubmissionHead ∷ place.SubmissionTail ∷ place.SubmissionFlags
-    ∷ place.SubmissionDropped ∷ place.CompletionHead ∷ place.CompletionTail ∷ place.BacklogFront ∷ [])
+    ∷ place.SubmissionDropped ∷ place.CompletionHead ∷ place.CompletionTail
+    ∷ place.BacklogFront ∷ [])
     ++ of_containers (Array ∷ Entries ∷ Completions ∷ Backlog ∷ [])
 
 -- The objects, at most 32.

@@ -1,5 +1,5 @@
 -- What a thread does next.
-use Rattle.std.specs.Prelude.{ℕ, ◌+◌, List, [], ◌++◌, take, drop, slice_get, codes, decimal, Option, Some, None, option_map}
+use Rattle.std.specs.Prelude.{ℕ, ◌+◌, ◌-◌, List, [], ◌++◌, length, take, drop, slice_get, codes, decimal, if◌then◌else◌, nat_le, Option, Some, None, option_map}
 use Rattle.std.specs.Fmt.{signed_decimal}
 use Rattle.std.specs.List.{position}
 use Rattle.std.specs.Option.{option_and_then, option_map_or}
@@ -43,7 +43,8 @@ abbrev pub counter_of : Walk → ℕ → Option ℕ
 counter_of w t = number_in (view (here w) (ProgramCounter t))
 
 abbrev pub instruction_at : Setup → ℕ → ℕ → Option Instruction
-instruction_at s t i = option_and_then (λ (p : List Instruction). slice_get p i) (slice_get s.threads t)
+instruction_at s t i =
+    option_and_then (λ (p : List Instruction). slice_get p i) (slice_get s.threads t)
 
 -- The text of an instruction of a thread, or `end` after the last one.
 abbrev pub instruction_name : Setup → ℕ → Option ℕ → List ℕ
@@ -56,9 +57,14 @@ instruction_name s t (Some i) = option_map_or instruction_text (instruction_at s
 unfoldable pub next_event : List Event → EditorThread → ℕ → Option ℕ
 next_event es t at = option_map (λ i. at + i) (position (is_event_of t) (take 16384 (drop at es)))
 
-abbrev pub event_name : List Event → Option ℕ → List ℕ
-event_name es index =
-    option_map_or event_text (option_and_then (λ i. slice_get es i) index) (codes "no event")
+-- The name where none of these is the thread's. After them there may be one, unless the run ends.
+abbrev pub no_event : List Event → ℕ → List ℕ
+no_event es at =
+    if nat_le (length es - at) 16384 then codes "no event" else codes "no event in the next 16384"
+
+abbrev pub event_name : List Event → ℕ → Option ℕ → List ℕ
+event_name es at index =
+    option_map_or event_text (option_and_then (λ i. slice_get es i) index) (no_event es at)
 
 -- ---- Places in the source
 
@@ -96,7 +102,7 @@ thread_frame w t m = record {
 abbrev pub event_frame : Walk → EditorThread → Option SourceMap → Frame
 event_frame w t m = record {
   thread = t;
-  name = event_name w.events (next_event w.events t w.at);
+  name = event_name w.events w.at (next_event w.events t w.at);
   moment = w.at;
   range = event_range m (next_event w.events t w.at);
 }

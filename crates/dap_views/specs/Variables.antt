@@ -116,7 +116,9 @@ row_variable s ds =
 -- The changes of the event before the position: exactly the places whose values it changed.
 pub record ListsChanges (w : Walk) (ds : List Changed) : Type 0 where
   pub none : w.at ≡ 0 → ds ≡ []
-  pub all : 0 < w.at → (past : List Change) × Exact (view (moment w.setup w.events (w.at - 1))) (view (here w)) past × IsListing (view (here w)) past ds
+  pub all : 0 < w.at → (past : List Change)
+      × Exact (view (moment w.setup w.events (w.at - 1))) (view (here w)) past
+      × IsListing (view (here w)) past ds
 
 pub record AreChanges (w : Walk) (vs : List Variable) : Type 0 where
   pub changes : List Changed

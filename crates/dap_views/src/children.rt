@@ -14,7 +14,7 @@ use std::alloc::{AllocError, Global};
 use stops::EditorThread;
 
 /// The number of the first descriptor (stdin(3)).
-const FIRST_DESCRIPTOR: u32 = 3;
+pub(crate) const FIRST_DESCRIPTOR: u32 = 3;
 
 /// The most objects and the most descriptors of a setup.
 const MOST_OBJECTS: u32 = 32;

@@ -9,6 +9,10 @@ use stops::EditorThread;
 
 /// The most threads of a setup.
 const MOST_THREADS: usize = 16;
+/// The number of the thread of all events.
+const RUN: u64 = 1;
+/// The number of the program's first thread.
+const FIRST_THREAD: u64 = 2;
 
 fn thread_count(setup: &Setup) -> u32
     ensures count { result ≡ thread_count setup.now }
@@ -21,7 +25,7 @@ fn thread_count(setup: &Setup) -> u32
 fn poller_id(setup: &Setup) -> u64
     ensures { result ≡ poller_id setup.now }
 {
-    2 + u64::from(thread_count(setup))
+    FIRST_THREAD + u64::from(thread_count(setup))
 }
 
 fn kernel_id(setup: &Setup) -> u64
@@ -39,8 +43,8 @@ pub fn thread_id(setup: &Setup, thread: EditorThread) -> u64
     ensures { result ≡ thread_id setup.now thread }
 {
     match thread {
-        EditorThread::Run => 1,
-        EditorThread::Thread(number) => 2 + u64::from(number),
+        EditorThread::Run => RUN,
+        EditorThread::Thread(number) => FIRST_THREAD + u64::from(number),
         EditorThread::Poller => poller_id(setup),
         EditorThread::Kernel => kernel_id(setup),
     }
@@ -51,11 +55,11 @@ pub fn thread_id(setup: &Setup, thread: EditorThread) -> u64
 pub fn thread_of(setup: &Setup, id: u64) -> Option<EditorThread>
     ensures { result ≡ thread_of setup.now id }
 {
-    if id == 1 {
+    if id == RUN {
         return Some(EditorThread::Run);
     }
-    if 2 <= id && id < poller_id(setup) {
-        return Some(EditorThread::Thread((id - 2) as u32));
+    if FIRST_THREAD <= id && id < poller_id(setup) {
+        return Some(EditorThread::Thread((id - FIRST_THREAD) as u32));
     }
     if setup.sqpoll && id == poller_id(setup) {
         return Some(EditorThread::Poller);

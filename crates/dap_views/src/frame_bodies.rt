@@ -23,7 +23,7 @@ fn counted(number: usize, from_1: bool) -> u64
     }
 }
 
-// Adds the first line and column. Without a source both are 0.
+// Adds the first line and column. Without a place in a source both are 0.
 #[tactic(auto, unfolding(crate::specs::Bodies::with_start))]
 fn put_start(
     alloc: Global,
@@ -70,42 +70,42 @@ fn put_end(
 fn put_range(
     alloc: Global,
     members: &mut Members,
-    range: Option<SourceRange>,
+    range: SourceRange,
     client: InitializeArguments,
 ) -> Result<(), AllocError>
     ensures { OnOk result (members_view members.new.entries
         ≡ with_range client range (members_view members.old.entries)) }
 {
-    put_start(alloc, members, range, client)?;
-    match range {
-        Some(range) => put_end(alloc, members, range.end, client),
-        None => Ok(()),
-    }
+    put_start(alloc, members, Some(range), client)?;
+    put_end(alloc, members, range.end, client)
 }
 
-// Adds the source, and where in it the frame is.
+// Adds the source, and where in it the frame is. A frame that is nowhere in it has no source.
 #[tactic(auto, unfolding(crate::specs::Bodies::with_source))]
 fn put_source(
     alloc: Global,
     members: &mut Members,
-    frame: &Frame,
+    range: Option<SourceRange>,
     source: Option<Value>,
     client: InitializeArguments,
 ) -> Result<(), AllocError>
     ensures { OnOk result (members_view members.new.entries
-        ≡ with_source client frame.now (option_map view source)
+        ≡ with_source client range (option_map view source)
         (members_view members.old.entries)) }
 {
-    match source {
-        Some(source) => {
+    let Some(source) = source else {
+        return put_start(alloc, members, None, client);
+    };
+    match range {
+        Some(range) => {
             put_member(alloc, members, "source", source)?;
-            put_range(alloc, members, frame.range, client)
+            put_range(alloc, members, range, client)
         }
         None => put_start(alloc, members, None, client),
     }
 }
 
-/// Returns a frame as JSON, with the source that it is in, if there is one.
+/// Returns a frame as JSON, with the source if the frame is somewhere in it.
 #[tactic(auto, unfolding(crate::specs::Bodies::frame_data))]
 pub fn frame_value(
     alloc: Global,
@@ -128,7 +128,7 @@ pub fn frame_value(
         "instructionPointerReference",
         address.as_bytes(),
     )?;
-    put_source(alloc, &mut members, frame, source, client)?;
+    put_source(alloc, &mut members, frame.range, source, client)?;
     Ok(Value::Object(members))
 }
 

@@ -5,7 +5,7 @@ ghost use Rattle.std.specs.Option.{option_copied};
 ghost use Rattle.places.specs.declared.place.Place.TheVariants.{ProgramCounter};
 ghost use Rattle.machine.specs.Whole.{view};
 ghost use Rattle.stops.specs.StopPoints.{is_event_of};
-ghost use Rattle.dap_views.specs.Frames.{event_name, event_range, frame_of, instruction_at, instruction_name, instruction_range, instruction_text, item_range, line_range, next_event, number_in};
+ghost use Rattle.dap_views.specs.Frames.{event_name, event_range, frame_of, instruction_at, instruction_name, instruction_range, instruction_text, item_range, line_range, next_event, no_event, number_in};
 
 use crate::variable::bytes_of;
 use inverse_log::Walker;
@@ -117,12 +117,24 @@ fn next_event(events: &[Event], thread: EditorThread, at: usize) -> Option<usize
     }
 }
 
+// Returns the name of a frame without an event. There may be one after those that it considers.
+fn no_event(alloc: Global, events: &[Event], at: usize) -> Result<Items<u8>, AllocError>
+    ensures { IfOk result (λ text. text ≡ no_event events.now at) }
+{
+    if events.len().saturating_sub(at) <= AHEAD {
+        bytes_of(alloc, "no event")
+    } else {
+        bytes_of(alloc, "no event in the next 16384")
+    }
+}
+
 fn event_name(
     alloc: Global,
     events: &[Event],
+    at: usize,
     index: Option<usize>,
 ) -> Result<Items<u8>, AllocError>
-    ensures { IfOk result (λ text. text ≡ event_name events.now index) }
+    ensures { IfOk result (λ text. text ≡ event_name events.now at index) }
 {
     let event = match index {
         Some(index) => events.get(index).copied(),
@@ -133,7 +145,7 @@ fn event_name(
             let text = format!(in alloc; "{}", EventText(event))?;
             Ok(Items::from_vec(text.into_bytes()))
         }
-        None => bytes_of(alloc, "no event"),
+        None => no_event(alloc, events, at),
     }
 }
 
@@ -206,7 +218,7 @@ pub fn frame_of(
     let EditorThread::Thread(number) = thread else {
         return Ok(Frame {
             thread,
-            name: event_name(alloc, walker.events(), next)?,
+            name: event_name(alloc, walker.events(), at, next)?,
             moment: at,
             range: event_range(map, next),
         });

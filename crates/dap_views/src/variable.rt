@@ -3,7 +3,7 @@ ghost use Rattle.std.specs.Prelude.{◌≡◌, IfOk};
 ghost use Rattle.scenario.specs.PlaceTexts.{name_of, place_text};
 ghost use Rattle.dap_views.specs.Variables.{child_variable, container_in, descriptor_object, field_variable, kind_text, nested_name, nested_value, nested_variable, object_kind, place_variable, plain_variable};
 
-use crate::children::Child;
+use crate::children::{Child, FIRST_DESCRIPTOR};
 use crate::container::Container;
 use crate::counts::count_of;
 use crate::requests::{RequestField, field_text};
@@ -109,7 +109,8 @@ fn object_name(alloc: Global, setup: &Setup, number: u32) -> Result<Items<u8>, A
 fn descriptor_object(alloc: Global, setup: &Setup, number: u32) -> Result<Items<u8>, AllocError>
     ensures { IfOk result (λ name. name ≡ descriptor_object setup.now number) }
 {
-    match setup.fds.as_slice().get(number.saturating_sub(3) as usize) {
+    let index = number.saturating_sub(FIRST_DESCRIPTOR);
+    match setup.fds.as_slice().get(index as usize) {
         Some(descriptor) => object_name(alloc, setup, descriptor.object),
         None => Ok(Items::new(alloc)),
     }

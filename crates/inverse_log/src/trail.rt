@@ -317,8 +317,19 @@ impl Trail {
             → Covers self.old.setup self.old.events every (xs ++ copies.new.items)) }
     {
         if self.at % every as usize == 0 {
-            copies.push(self.snapshot()?)?;
+            self.push_copy(copies)?;
         }
+        Ok(())
+    }
+
+    // Pushes a copy of the state. A function of its own, so that an event that needs no copy
+    // reserves no stack for one.
+    #[inline(never)]
+    fn push_copy(&mut self, copies: &mut Vec<Snapshot>) -> Result<(), AllocError>
+        ensures same { self.new ≡ self.old }
+        ensures ok { OnOk result (copies.new.items ≡ copies.old.items ++ current self.old ∷ []) }
+    {
+        copies.push(self.snapshot()?)?;
         Ok(())
     }
 

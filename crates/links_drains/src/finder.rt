@@ -67,8 +67,7 @@ impl Finder {
         if rows.len() < self.previous.len() {
             return Ok(());
         }
-        self.previous.push(0)?;
-        Ok(())
+        self.previous.push(0)
     }
 
     // Makes room for all hashes and marks, if the table is empty.

@@ -74,6 +74,7 @@ impl Index {
 
     /// Updates the index for request r, which is new, has changed within its chain, or is now the
     /// last.
+    #[inline(always)]
     pub(crate) fn update(&mut self, rows: &Rows, r: usize)
         requires { (row : Row) × (slice_get rows.now r ≡ Some row)
             × IndexedBut r row.unit rows.now self.old }

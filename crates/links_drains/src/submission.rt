@@ -94,9 +94,9 @@ impl Table {
         ensures completions { notes.old.completions ≤ notes.new.completions }
     {
         let first = self.len();
+        notes.expect_rows(entries.len())?;
         self.add_rows(entries, world, notes)?;
-        let alloc = self.allocator();
-        let direct = direct_ends(alloc, world, entries, first as u32, self.rows())?;
+        let direct = direct_ends(self.allocator(), world, entries, first as u32, self.rows())?;
         Ok(direct)
     }
 

@@ -329,6 +329,7 @@ impl Table {
     }
 
     /// Replaces a request, and updates the counts and the index.
+    #[inline(always)]
     fn set(&mut self, r: usize, after: Row)
         requires { option_map fixed_of (slice_get self.old r) ≡ Some (fixed_of after) }
         ensures { self.new ≡ slice_set self.old r after }

@@ -23,8 +23,7 @@ impl Machine {
         ensures keeps { Keeps everywhere (view self.old)
             (view self.new) notes.old.made notes.new.made }
     {
-        let row = self.table.row(r);
-        match self.waiting_target(&row) {
+        match self.waiting_target(self.table.row_ref(r)) {
             Some(target) => self.cascade(&[(target, -ECANCELED), (r, -ETIME)], notes),
             None => self.cascade(&[(r, -ETIME)], notes),
         }

@@ -88,8 +88,7 @@ impl Machine {
         ensures keeps { Keeps everywhere (view self.old)
             (view self.new) notes.old.made notes.new.made }
     {
-        let row = self.table.row_ref(r);
-        carry_out(&mut self.world, row, res, notes)?;
+        carry_out(&mut self.world, self.table.row_ref(r), res, notes)?;
         self.cascade(&[(r, res)], notes)
     }
 

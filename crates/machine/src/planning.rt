@@ -34,6 +34,7 @@ pub(crate) enum Plan {
 
 impl Machine {
     /// Returns what an event does, or why it is refused. Doesn't allocate.
+    #[inline(always)]
     pub(crate) fn plan(&self, event: Event) -> Result<Plan, Refusal>
         requires formed { WellFormed self.now }
         ensures err { IfErr result (λ n. refusal self.now event ≡ Some n) }

@@ -7,16 +7,16 @@ use crate::whole::Machine;
 use links_drains::{SharedTable, Table};
 use model_files::{SharedWorld, World};
 use overflow::Backlog;
-use ring_words::{ComRing, SubRing};
+use ring_words::{ComRing, SharedComRing, SharedSubRing, SubRing};
 use sqpoll::Poller;
 use std::alloc::{AllocError, Global};
 
-/// A copy of a machine. It shares the requests and the bytes of the memory, the files and the
-/// pipes. The other parts are small, and are its own.
+/// A copy of a machine. It shares the entries of the rings, the requests, and the bytes of the
+/// memory, the files and the pipes. The other parts are small, and are its own.
 #[derive(Drop)]
 pub struct SharedMachine {
-    pub submissions: SubRing,
-    pub completions: ComRing,
+    pub submissions: SharedSubRing,
+    pub completions: SharedComRing,
     pub backlog: Backlog,
     pub world: SharedWorld,
     pub table: SharedTable,
@@ -34,8 +34,8 @@ impl Machine {
         ensures same { self.new ≡ self.old }
     {
         Ok(SharedMachine {
-            submissions: self.submissions.copy(alloc)?,
-            completions: self.completions.copy(alloc)?,
+            submissions: self.submissions.share(alloc)?,
+            completions: self.completions.share(alloc)?,
             backlog: self.backlog.copy(alloc)?,
             world: self.world.share(alloc)?,
             table: self.table.share(alloc)?,
@@ -53,29 +53,37 @@ impl SharedMachine {
     pub(crate) fn to_machine(&self, alloc: Global) -> Result<Machine, AllocError>
         ensures { IfOk result (λ machine. machine ≡ machine_in self.now) }
     {
-        self.build(alloc, None, None)
+        self.build(
+            alloc,
+            Room {
+                submissions: None,
+                completions: None,
+                world: None,
+                table: None,
+            },
+        )
     }
 
     /// Returns the machine, in the storage of `room` as far as that fits.
     pub(crate) fn restore(&self, alloc: Global, room: Machine) -> Result<Machine, AllocError>
         ensures { IfOk result (λ machine. machine ≡ machine_in self.now) }
     {
-        let (world, table) = large_parts(room);
-        self.build(alloc, Some(world), Some(table))
+        self.build(alloc, large_parts(room))
     }
 
     // Returns the machine, in the storage of these parts as far as that fits.
-    fn build(
-        &self,
-        alloc: Global,
-        world: Option<World>,
-        table: Option<Table>,
-    ) -> Result<Machine, AllocError>
+    fn build(&self, alloc: Global, room: Room) -> Result<Machine, AllocError>
         ensures { IfOk result (λ machine. machine ≡ machine_in self.now) }
     {
+        let Room {
+            submissions,
+            completions,
+            world,
+            table,
+        } = room;
         Ok(Machine {
-            submissions: self.submissions.copy(alloc)?,
-            completions: self.completions.copy(alloc)?,
+            submissions: self.submissions.restore(alloc, submissions)?,
+            completions: self.completions.restore(alloc, completions)?,
             backlog: self.backlog.copy(alloc)?,
             world: self.world.restore(alloc, world)?,
             table: self.table.restore(alloc, table)?,
@@ -88,11 +96,20 @@ impl SharedMachine {
     }
 }
 
+// The parts of a machine that a copy is restored in.
+#[derive(Drop)]
+struct Room {
+    submissions: Option<SubRing>,
+    completions: Option<ComRing>,
+    world: Option<World>,
+    table: Option<Table>,
+}
+
 // Takes the large parts of a machine, and drops the others.
-fn large_parts(machine: Machine) -> (World, Table) {
+fn large_parts(machine: Machine) -> Room {
     let Machine {
-        submissions: _submissions,
-        completions: _completions,
+        submissions,
+        completions,
         backlog: _backlog,
         world,
         table,
@@ -102,5 +119,10 @@ fn large_parts(machine: Machine) -> (World, Table) {
         clock: _,
         counted: _,
     } = machine;
-    (world, table)
+    Room {
+        submissions: Some(submissions),
+        completions: Some(completions),
+        world: Some(world),
+        table: Some(table),
+    }
 }

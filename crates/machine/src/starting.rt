@@ -89,7 +89,7 @@ fn start_thread(alloc: Global, program: &[Instruction]) -> Result<Thread, AllocE
     ensures widths { IfOk result (λ thread. (i : ℕ) (x : Instruction)
         → slice_get program.now i ≡ Some x → HasWidths x) }
 {
-    let mut copies = Vec::new(alloc);
+    let mut copies = Vec::with_capacity(alloc, program.len())?;
     for instruction in program {
         copies.push(instruction.copy(alloc)?)?;
     }

@@ -125,6 +125,7 @@ impl State {
     /// Carries out one event atomically. Returns the undo record: the places whose value changed,
     /// with their old values. If the event is refused, or an allocation fails, the state is
     /// unchanged.
+    #[inline(always)]
     pub fn step(&mut self, event: Event) -> Result<Record, Refusal>
         ensures next { OnOk result (Next self.old event self.new) }
         ensures exact { IfOk result (λ r. Exact (view self.old) (view self.new) r) }

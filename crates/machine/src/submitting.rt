@@ -118,7 +118,7 @@ impl Machine {
         ensures { IfOk result (λ entries. entries.items
             ≡ entries_at self.now.submissions.slots (offered self.now.submissions count)) }
     {
-        let mut entries = Vec::new(self.table.allocator());
+        let mut entries = Vec::with_capacity(self.table.allocator(), count as usize)?;
         for i in 0..count {
             if let Some(entry) = self.submissions.entry(self.submissions.word(i)) {
                 entries.push(entry)?;

@@ -104,7 +104,7 @@ fn span_end(old: &[u8], others: &[u8], from: usize) -> usize
     requires differs { DifferAt old.now others.now from }
     ensures { IsSpanEnd old.now others.now from result }
 {
-    let mut end = from + 1;
+    let mut end = skip_changed(old, others, from);
     loop {
         let next = last_end(old, others, end, old.len().min(end + GAP));
         if next == end {
@@ -112,6 +112,23 @@ fn span_end(old: &[u8], others: &[u8], from: usize) -> usize
         }
         end = next;
     }
+}
+
+/// Returns an index in the span that begins at `from`, or its end. One byte in 16 is looked at.
+fn skip_changed(old: &[u8], others: &[u8], from: usize) -> usize
+    requires len { length others.now ≡ length old.now }
+    requires within { from < length old.now }
+    requires differs { DifferAt old.now others.now from }
+    ensures some { from < result }
+    ensures within { result ≤ length old.now }
+    ensures last { DifferAt old.now others.now (result - 1) }
+    ensures inner { (i : ℕ) → from ≤ i → i + 16 ≤ result → ¬ Alike old.now others.now i (i + 16) }
+{
+    let mut end = from + 1;
+    while GAP <= old.len() - end && old[end + GAP - 1] != others[end + GAP - 1] {
+        end += GAP;
+    }
+    end
 }
 
 /// Returns the index after the last byte that differs in a range, or `from` if none does.

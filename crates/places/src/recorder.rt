@@ -153,6 +153,7 @@ impl Recorder {
     }
 
     /// Reserves memory for the next n notes of numbers.
+    #[inline(always)]
     pub fn room_for_numbers(&mut self, n: usize) -> Result<(), AllocError>
         ensures made { self.new.made ≡ self.old.made }
         ensures room { OnOk result (n ≤ self.new.numbers) }
@@ -173,6 +174,7 @@ impl Recorder {
     }
 
     /// Reserves memory for the next n notes of completion slots.
+    #[inline(always)]
     pub fn room_for_completions(&mut self, n: usize) -> Result<(), AllocError>
         ensures made { self.new.made ≡ self.old.made }
         ensures room { OnOk result (n ≤ self.new.completions) }
@@ -264,6 +266,7 @@ impl Recorder {
     }
 
     /// Records the number in a place.
+    #[inline(always)]
     pub fn note_number(&mut self, place: Place, old: u64) -> Result<(), AllocError>
         requires { is_number place ≡ true }
         ensures ok { OnOk result (Noted self.old.made self.new.made place (Some (Number old))) }
@@ -282,6 +285,7 @@ impl Recorder {
     }
 
     /// Records the completion in a slot of the completion ring.
+    #[inline(always)]
     pub fn note_completion(&mut self, slot: u32, old: Cqe) -> Result<(), AllocError>
         ensures ok { OnOk result
             (Noted self.old.made self.new.made (Completion slot) (Some (Completed old))) }

@@ -50,6 +50,7 @@ impl Stage {
 
 impl Value {
     /// Returns whether two values are equal.
+    #[inline(always)]
     pub fn equals(&self, other: &Value) -> bool
         ensures { IsTrue result ↔ (self.now ≡ other.now) }
     {

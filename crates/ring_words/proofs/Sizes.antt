@@ -1,5 +1,6 @@
 -- Facts about the sizes of rings.
-use Rattle.ring_words.proofs.Common.{length, slice_index_or, ◌≡◌, ◌*◌, ℕ, zero, suc, Bool, true, false, cond, refl, sym, ap, List, [], ◌∷◌, ◌+◌, ◌/◌, ◌<◌, ◌≤◌, ◌^◌, ◌⊎◌, inl, inr, nat_lt, subst, arith, pow_mono, pow-succ', pow_pos, ◌∣◌, IsNextPowerOfTwo}
+use Rattle.ring_words.proofs.Common.{length, slice_index_or, ◌∙◌, ◌-◌, ◌++◌, ◌≡◌, ◌*◌, ℕ, zero, suc, Bool, true, false, cond, refl, sym, ap, List, [], ◌∷◌, ◌+◌, ◌/◌, ◌<◌, ◌≤◌, ◌^◌, ◌⊎◌, inl, inr, nat_lt, subst, arith, pow_mono, pow-succ', pow_pos, ◌∣◌, IsNextPowerOfTwo}
+use Rattle.std.proofs.Common.{replicate}
 use Rattle.std.proofs.lemmas.Bool.{ltb-true, ltb-false}
 use Rattle.std.proofs.Math.Dec.{leb}
 use Rattle.std.proofs.lemmas.Bool.Decides.{leb_tells}
@@ -74,3 +75,8 @@ next_size = grind (arith, not_below, pow_mono, size_at)
 
 pub rounded_size : (n l : ℕ) → 0 < n → n ≤ 2 ^ l → l ≤ 13 → n ≤ 8192 → IsSize (2 ^ l) (rounded n)
 rounded_size n l s m few k = next_size n (rounded n) l s m few (rounded_next n s k)
+
+-- An empty list was filled.
+pub grown : {X : Type 0} (old new : List X) (n : ℕ) (x : X) → old ≡ [] → new ≡ old ++ replicate (n - length old) x → new ≡ replicate n x
+grown [] new n x none e = let all : n - 0 ≡ n = omega arith in e ∙ ap (λ k. replicate k x) all
+grown (y ∷ old) new n x none e = absurd cc

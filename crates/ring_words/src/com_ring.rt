@@ -10,15 +10,19 @@ use crate::refusal::RingRefusal;
 use crate::size::size_for;
 use entries::Cqe;
 use places::{At, Part, Place, Recorder, Value};
+use shared_pages::PagedList;
 use std::alloc::{AllocError, Global};
 use std::marker::Model;
+
+/// The number of slots that share a page: 2 KB.
+pub(crate) const SLOTS: usize = 128;
 
 /// The completion ring: the kernel posts at the tail, and the application reaps at the head.
 #[derive(Drop)]
 pub struct ComRing {
-    head: u32,
-    tail: u32,
-    slots: Vec<Cqe>,
+    pub(crate) head: u32,
+    pub(crate) tail: u32,
+    pub(crate) slots: PagedList<Cqe, SLOTS>,
 }
 
 impl Model for ComRing {
@@ -26,10 +30,10 @@ impl Model for ComRing {
 
     ghost Value = { ComWords };
 
-    ghost view = { λ a. record { head = a.head; tail = a.tail; slots = a.slots.items } };
+    ghost view = { λ a. record { head = a.head; tail = a.tail; slots = a.slots } };
 
     ghost invariant = { λ a. ComFormed
-        (record { head = a.head; tail = a.tail; slots = a.slots.items }) };
+        (record { head = a.head; tail = a.tail; slots = a.slots }) };
 }
 
 impl At for ComRing {
@@ -76,7 +80,7 @@ impl Part for ComRing {
         match (place, value) {
             (Place::CompletionHead, Some(Value::Number(n))) => self.head = n as u32,
             (Place::CompletionTail, Some(Value::Number(n))) => self.tail = n as u32,
-            (Place::Completion(i), Some(Value::Completed(c))) => self.slots[i as usize] = c,
+            (Place::Completion(i), Some(Value::Completed(c))) => self.slots.set(i as usize, c),
             // `can_put` allows no other place, and any would be left alone.
             _ => {}
         }
@@ -99,8 +103,9 @@ impl ComRing {
             res: 0,
             flags: 0,
         };
-        match vec![in alloc; empty; size_for(entries)] {
-            Ok(slots) => Ok(ComRing {
+        let mut slots = PagedList::new(alloc);
+        match slots.grow(size_for(entries), empty) {
+            Ok(()) => Ok(ComRing {
                 head: base,
                 tail: base,
                 slots,
@@ -116,7 +121,7 @@ impl ComRing {
         Ok(ComRing {
             head: self.head,
             tail: self.tail,
-            slots: Vec::from_slice(alloc, &self.slots)?,
+            slots: self.slots.copy(alloc)?,
         })
     }
 
@@ -185,7 +190,7 @@ impl ComRing {
     {
         let at = self.tail as usize % self.slots.len();
         note_slot(notes, at as u32, self.slots[at]);
-        self.slots[at] = completion;
+        self.slots.set(at, completion);
         note_word(notes, Place::CompletionTail, self.tail);
         self.tail = self.tail.wrapping_add(1);
     }

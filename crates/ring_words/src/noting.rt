@@ -9,6 +9,7 @@ use entries::Cqe;
 use places::{Place, Recorder};
 
 /// Records a ring word. There must be room for the note, so this cannot fail.
+#[inline(always)]
 pub(crate) fn note_word(notes: &mut Recorder, place: Place, old: u32)
     requires kind { is_number place ≡ true }
     requires limits { InLimits place }

@@ -13,19 +13,26 @@ use crate::size::size_for;
 use crate::taken::Taken;
 use entries::Sqe;
 use places::{At, Part, Place, Recorder, Value};
+use shared_pages::PagedList;
 use std::alloc::{AllocError, Global};
 use std::marker::Model;
+
+/// The number of words of the index array that share a page: 1 KB.
+pub(crate) const WORDS: usize = 256;
+
+/// The number of entry slots that share a page: 2 KB.
+pub(crate) const SLOTS: usize = 32;
 
 /// The submission ring: the application pushes indexes of entry slots at the tail, and the kernel
 /// takes them at the head. It has as many entry slots as words in the index array.
 #[derive(Drop)]
 pub struct SubRing {
-    head: u32,
-    tail: u32,
-    flags: u32,
-    dropped: u32,
-    array: Vec<u32>,
-    slots: Vec<Sqe>,
+    pub(crate) head: u32,
+    pub(crate) tail: u32,
+    pub(crate) flags: u32,
+    pub(crate) dropped: u32,
+    pub(crate) array: PagedList<u32, WORDS>,
+    pub(crate) slots: PagedList<Sqe, SLOTS>,
 }
 
 impl Model for SubRing {
@@ -38,8 +45,8 @@ impl Model for SubRing {
       tail = a.tail;
       flags = a.flags;
       dropped = a.dropped;
-      array = a.array.items;
-      slots = a.slots.items;
+      array = a.array;
+      slots = a.slots;
     } };
 
     ghost invariant = { λ a. SubFormed
@@ -49,8 +56,8 @@ impl Model for SubRing {
           flags = a.flags;
           dropped = a.dropped;
           array =
-              a.array.items;
-          slots = a.slots.items;
+              a.array;
+          slots = a.slots;
         }) };
 }
 
@@ -109,8 +116,8 @@ impl Part for SubRing {
             (Place::SubmissionTail, Some(Value::Number(n))) => self.tail = n as u32,
             (Place::SubmissionFlags, Some(Value::Number(n))) => self.flags = n as u32,
             (Place::SubmissionDropped, Some(Value::Number(n))) => self.dropped = n as u32,
-            (Place::Array(i), Some(Value::Number(n))) => self.array[i as usize] = n as u32,
-            (Place::Slot(i), Some(Value::Entry(entry))) => self.slots[i as usize] = entry,
+            (Place::Array(i), Some(Value::Number(n))) => { self.array.set(i as usize, n as u32) }
+            (Place::Slot(i), Some(Value::Entry(entry))) => self.slots.set(i as usize, entry),
             // `can_put` allows no other place, and any would be left alone.
             _ => {}
         }
@@ -161,13 +168,17 @@ impl SubRing {
             splice_fd_in: 0,
             rest: [0; 16],
         };
+        let mut array = PagedList::new(alloc);
+        array.grow(size, 0)?;
+        let mut slots = PagedList::new(alloc);
+        slots.grow(size, zero)?;
         Ok(SubRing {
             head: base,
             tail: base,
             flags: 0,
             dropped: 0,
-            array: vec![in alloc; 0; size]?,
-            slots: vec![in alloc; zero; size]?,
+            array,
+            slots,
         })
     }
 
@@ -180,8 +191,8 @@ impl SubRing {
             tail: self.tail,
             flags: self.flags,
             dropped: self.dropped,
-            array: Vec::from_slice(alloc, &self.array)?,
-            slots: Vec::from_slice(alloc, &self.slots)?,
+            array: self.array.copy(alloc)?,
+            slots: self.slots.copy(alloc)?,
         })
     }
 
@@ -272,7 +283,7 @@ impl SubRing {
         requires { slot < length self.old.slots }
         ensures { self.new ≡ record self.old { slots = slice_set self.old.slots slot entry } }
     {
-        self.slots[slot as usize] = entry;
+        self.slots.set(slot as usize, entry);
     }
 
     /// Appends an index.
@@ -294,7 +305,7 @@ impl SubRing {
     {
         let at = self.tail as usize % self.array.len();
         note_word(notes, Place::Array(at as u32), self.array[at]);
-        self.array[at] = index;
+        self.array.set(at, index);
         note_word(notes, Place::SubmissionTail, self.tail);
         self.tail = self.tail.wrapping_add(1);
     }

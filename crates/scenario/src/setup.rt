@@ -127,7 +127,7 @@ fn copy_threads(
 fn copy_program(alloc: Global, program: &[Instruction]) -> Result<Items<Instruction>, AllocError>
     ensures { IfOk result (λ copy. copy ≡ program.now) }
 {
-    let mut copies = Vec::new(alloc);
+    let mut copies = Vec::with_capacity(alloc, program.len())?;
     for instruction in program {
         copies.push(instruction.copy(alloc)?)?;
     }

@@ -1,4 +1,5 @@
 mod Cursors
 mod Lists
 mod ListTexts
+mod PutTexts
 mod WordItems

@@ -1,3 +1,4 @@
 pub mod Positions
 pub mod Maps
 pub mod ListTexts
+pub mod PutTexts

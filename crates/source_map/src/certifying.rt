@@ -1,11 +1,12 @@
 //! Reads ranges of a text, and compares them with the items that they should be.
-ghost use Rattle.std.specs.Prelude.{◌≡◌, IfOk, IfSome, IsTrue, Some};
+ghost use Rattle.std.specs.Prelude.{◌≡◌, IfOk, IfSome, IsTrue, Some, ℕ};
 ghost use Rattle.serde_json.specs.Read.{read};
 ghost use Rattle.serde_json.specs.View.{view};
 ghost use Rattle.script.specs.Events.{event_at};
 ghost use Rattle.script.specs.Instructions.{instruction_at};
 ghost use Rattle.source_map.specs.Maps.{IsRange, ReadsAt};
 
+use crate::puts::spells_put;
 use crate::span::Span;
 use crate::spelling::range_of;
 use crate::words::{spells_event, spells_instruction};
@@ -38,6 +39,17 @@ fn value_at(alloc: Global, text: &[u8], span: Span) -> Result<Option<Value>, All
     match range_of(text, span) {
         Some(range) => value_of(alloc, range),
         None => Ok(None),
+    }
+}
+
+// Returns whether a range is an instruction, written as most programs write it.
+fn spells(text: &[u8], span: Span, size: u32, instruction: &Instruction) -> bool
+    ensures { IsTrue result → (thread index : ℕ)
+        → IsRange (instruction_at size thread) text.now span index instruction.now }
+{
+    match instruction {
+        Instruction::Put(slot, entry) => spells_put(text, span, size, *slot, entry),
+        _ => spells_instruction(text, span, instruction),
     }
 }
 
@@ -83,7 +95,7 @@ pub(crate) fn is_instruction(
     ensures { IfOk result (λ yes. IsTrue yes
         → IsRange (instruction_at size thread) text.now span index instruction.now) }
 {
-    if spells_instruction(text, span, instruction) {
+    if spells(text, span, size, instruction) {
         return Ok(true);
     }
     let Some(value) = value_at(alloc, text, span)? else {

@@ -6,6 +6,7 @@ mod certifying;
 mod cursor;
 mod locating;
 mod map;
+mod puts;
 mod scanning;
 mod span;
 mod spelling;

@@ -9,8 +9,8 @@ ghost use Rattle.source_map.specs.ListTexts.{Fit, FollowsGap, HasTokens, list_va
 use crate::span::Span;
 use itoa::Buffer;
 
-// Returns the text after a prefix.
-fn after<'a>(text: &'a [u8], prefix: &[u8]) -> Option<&'a [u8]>
+/// Returns the text after a prefix.
+pub(crate) fn after<'a>(text: &'a [u8], prefix: &[u8]) -> Option<&'a [u8]>
     ensures { IfSome result (λ rest. text.now ≡ prefix.now ++ rest.now) }
 {
     let Some(rest) = text.strip_prefix(prefix) else {
@@ -32,15 +32,15 @@ fn gap_length(text: &[u8]) -> usize
     text.len()
 }
 
-// Returns a text after its first spaces and line feeds.
-fn after_gap(text: &[u8]) -> &[u8]
+/// Returns a text after its first spaces and line feeds.
+pub(crate) fn after_gap(text: &[u8]) -> &[u8]
     ensures { FollowsGap text.now result.now }
 {
     &text[gap_length(text)..]
 }
 
-// Returns the text after a number.
-fn after_number(text: &[u8], number: u64) -> Option<&[u8]>
+/// Returns the text after a number.
+pub(crate) fn after_number(text: &[u8], number: u64) -> Option<&[u8]>
     ensures { IfSome result (λ rest. text.now ≡ decimal number ++ rest.now) }
 {
     let mut buffer = Buffer::new();

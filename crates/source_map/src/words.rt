@@ -28,8 +28,8 @@ pub(crate) fn spells_event(text: &[u8], span: Span, event: &Event) -> bool
     }
 }
 
-/// Returns whether a range is an instruction, written as most programs write it. A put, a store and
-/// a close have to be read.
+/// Returns whether a range is an instruction, written as most programs write it. A store and a
+/// close have to be read, and a put is compared apart.
 pub(crate) fn spells_instruction(text: &[u8], span: Span, instruction: &Instruction) -> bool
     ensures { IsTrue result → (size thread index : ℕ)
         → IsRange (instruction_at size thread) text.now span index instruction.now }

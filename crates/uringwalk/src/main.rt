@@ -7,6 +7,7 @@ ghost use Rattle.uringwalk.specs.Files.{fault_as};
 
 mod checking;
 mod drawing;
+mod editing;
 mod explaining;
 mod input;
 mod living;
@@ -25,6 +26,7 @@ use debug_server::{
     trace_eager, trace_script, walk,
 };
 use drawing::draw_file;
+use editing::serve_editor;
 use explaining::explain_files;
 use living::live_file;
 use logging::log_file;
@@ -188,6 +190,7 @@ fn run<
             kernel,
             clients,
         } => done(serve_file(rt, script, port, turns, kernel, clients)),
+        Job::Dap => serve_editor(rt),
         Job::Trace {
             script,
             out,
@@ -227,7 +230,8 @@ fn loses_script(rt: &(impl Files + AllocGlobal), job: &Job<'_>) -> Result<bool, 
         | Job::Timeline { .. }
         | Job::Explore(Exploration { out: None, .. })
         | Job::Live { out: None, .. }
-        | Job::Serve { .. } => Ok(false),
+        | Job::Serve { .. }
+        | Job::Dap => Ok(false),
     }
 }
 

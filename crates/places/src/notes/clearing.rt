@@ -41,6 +41,9 @@ fn clear_alike(olds: &[u8], gone: &mut [u64], mark: usize, start: usize, now: &[
     let from = start.min(now.len());
     let there = &now[from..];
     let n = olds.len().min(there.len());
+    if !is_any_alike(olds, there, 0, n) {
+        return;
+    }
     let mut at = 0;
     while at < n {
         let end = at + AT_ONCE.min(n - at);

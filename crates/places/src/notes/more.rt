@@ -41,6 +41,7 @@ impl Model for More {
 impl More {
     /// Joins unpacked notes of numbers, completions and rows with those of the rarer
     /// kinds. Allocates nothing.
+    #[inline(always)]
     pub fn new(wide: Wide, rest: Kept) -> More
         ensures wide { result.wide ≡ wide }
         ensures rest { result.rest ≡ rest }

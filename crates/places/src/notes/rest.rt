@@ -43,6 +43,7 @@ impl Rest {
     }
 
     /// Reserves memory for the next n notes of single places.
+    #[inline(always)]
     pub fn room(&mut self, alloc: Global, n: usize) -> Result<(), AllocError>
         ensures runs { self.new.runs ≡ self.old.runs }
         ensures olds { self.new.olds ≡ self.old.olds }

@@ -40,6 +40,7 @@ impl ShortBytes {
     }
 
     /// Copies bytes. Fails only if an allocation fails.
+    #[inline(always)]
     pub fn from_slice(alloc: Global, bytes: &[u8]) -> Result<ShortBytes, AllocError>
         ensures { IfOk result (λ copy. copy ≡ bytes.now) }
     {

@@ -18,9 +18,9 @@ pub cascade-requires-clause-mostly : goal.cascade-requires-clause-mostly
 cascade-requires-clause-mostly c =
     let m = c.args.self.now in
     let o = c.requires.can.0 in
-    let same = same_row o.row c.row_ref-row.result.now (sym o.there ∙ c.row_ref-row.ensures) in
-    let outcome : outcome_of (is_held_by m.table) m.world c.row_ref-row.result.now c.requires.can.1 ≡ Res c.args.res = ap (λ (x : Row). outcome_of (is_held_by m.table) m.world x c.requires.can.1) (sym same) ∙ c.requires.can.2 in
-    let s = stays_after (is_held_by m.table) m.world c.row_ref-row.result.now c.args.res c.requires.can.1 c.requires.formed.mostly.world (puts_fit m c.requires.formed) outcome in
+    let same = same_row o.row c.row_ref.result.now (sym o.there ∙ c.row_ref.ensures) in
+    let outcome : outcome_of (is_held_by m.table) m.world c.row_ref.result.now c.requires.can.1 ≡ Res c.args.res = ap (λ (x : Row). outcome_of (is_held_by m.table) m.world x c.requires.can.1) (sym same) ∙ c.requires.can.2 in
+    let s = stays_after (is_held_by m.table) m.world c.row_ref.result.now c.args.res c.requires.can.1 c.requires.formed.mostly.world (puts_fit m c.requires.formed) outcome in
     let fits : FitsSigned w32 c.args.res = search rules in
-    let moved = c.in_ok-carry_out.ensures.ok ∙ ap (λ z. world_after c.row_ref-row.result.now z m.world) (to_z-of_z w32 c.args.res fits) in
-    subst (λ (w : WorldState). Mostly (record m { world = w })) (sym moved) (mostly_world m (world_after c.row_ref-row.result.now c.args.res m.world) (mostly m c.requires.formed) s.formed)
+    let moved = c.in_ok-carry_out.ensures.ok ∙ ap (λ z. world_after c.row_ref.result.now z m.world) (to_z-of_z w32 c.args.res fits) in
+    subst (λ (w : WorldState). Mostly (record m { world = w })) (sym moved) (mostly_world m (world_after c.row_ref.result.now c.args.res m.world) (mostly m c.requires.formed) s.formed)

@@ -1,4 +1,4 @@
-use Rattle.ring_words.proofs.Common.{◌≡◌, refl, ◌∙◌, ◌<◌, ◌%◌, length, arith, slice_get_read, keeps_noted}
+use Rattle.ring_words.proofs.Common.{◌≡◌, refl, ◌<◌, ◌%◌, length, arith, slice_get_read, keeps_noted}
 use Rattle.ring_words.proofs.Order.{list_front}
 use Rattle.ring_words.proofs.Sizes.{size_divides, size_some}
 use Rattle.ring_words.proofs.Seen.{com_seen_head}
@@ -11,7 +11,7 @@ returns-clause-keeps c = rw (← c.self.view_is) (keeps_noted _ _ _ _ _ _ _ refl
 pub returns-clause-list : goal.returns-clause-list
 unfolding com_list
 returns-clause-list c =
-    let same : c.len.result ≡ length c.self.inside.slots.items = c.len.ensures ∙ c.self.inside.slots.ok.0 in
+    let same : c.len.result ≡ length c.self.inside.slots = c.len.ensures in
     let within : c.self.inside.head % c.len.result < c.len.result = omega (arith, (size_some c.self.invariant.size), same) in
     let here = rw same at (slice_get_read _ _ _ _ same within c.index-completion.ensures) in
     let some = rw (← c.self.view_is) at c.requires.some in

@@ -16,4 +16,4 @@ pub returns-in-Completion-Some-Completed-clause-put : goal.returns-in-Completion
 returns-in-Completion-Some-Completed-clause-put c =
     let e : c.args.value ≡ Some (Completed c.in-Completion-Some-Completed.c) = cc in
     let r = rw (← c.self.view_is, c.in-Completion-Some-Completed.is-0, e) at c.requires in
-    rw (← c.self.view_is, c.in-Completion-Some-Completed.is-0, e) (λ q. com_seen_slot _ _ _ r q)
+    rw (← c.self.view_is, c.in-Completion-Some-Completed.is-0, e, c.set.ensures) (λ q. com_seen_slot _ _ _ r q)

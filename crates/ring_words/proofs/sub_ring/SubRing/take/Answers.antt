@@ -11,9 +11,9 @@ returns-then-index-len-clause-keeps c = rw (← c.self.view_is) (keeps_noted _ _
 pub returns-then-index-len-clause-list : goal.returns-then-index-len-clause-list
 unfolding sub_list
 returns-then-index-len-clause-list c =
-    let within : c.self.inside.head % length c.self.inside.array.items < length c.self.inside.array.items = omega (arith, (size_some c.self.invariant.size)) in
+    let within : c.self.inside.head % length c.self.inside.array < length c.self.inside.array = omega (arith, (size_some c.self.invariant.size)) in
     let some = rw (← c.self.view_is) at c.requires.some in
-    rw (← c.self.view_is) (list_front _ _ _ _ (size_divides 4096 _ c.self.invariant.size) (omega arith) (omega arith) some (slice_get-get_or c.self.inside.array.items _ 0 within))
+    rw (← c.self.view_is) (list_front _ _ _ _ (size_divides 4096 _ c.self.invariant.size) (omega arith) (omega arith) some (slice_get-get_or c.self.inside.array _ 0 within))
 
 pub returns-clause-keeps : goal.returns-clause-keeps
 returns-clause-keeps c =
@@ -25,6 +25,6 @@ returns-clause-keeps c =
 pub returns-clause-list : goal.returns-clause-list
 unfolding sub_list
 returns-clause-list c =
-    let within : c.self.inside.head % length c.self.inside.array.items < length c.self.inside.array.items = omega (arith, (size_some c.self.invariant.size)) in
+    let within : c.self.inside.head % length c.self.inside.array < length c.self.inside.array = omega (arith, (size_some c.self.invariant.size)) in
     let some = rw (← c.self.view_is) at c.requires.some in
-    rw (← c.self.view_is) (list_front _ _ _ _ (size_divides 4096 _ c.self.invariant.size) (omega arith) (omega arith) some (slice_get-get_or c.self.inside.array.items _ 0 within))
+    rw (← c.self.view_is) (list_front _ _ _ _ (size_divides 4096 _ c.self.invariant.size) (omega arith) (omega arith) some (slice_get-get_or c.self.inside.array _ 0 within))

@@ -26,10 +26,10 @@ pub returns-in-Array-Some-Number-clause-put : goal.returns-in-Array-Some-Number-
 returns-in-Array-Some-Number-clause-put c =
     let e : c.args.value ≡ Some (Number c.in-Array-Some-Number.n) = cc in
     let r = rw (← c.self.view_is, c.in-Array-Some-Number.is-0, e) at c.requires in
-    rw (← c.self.view_is, c.in-Array-Some-Number.is-0, e) (λ q. sub_seen_word _ _ _ r.0 q)
+    rw (← c.self.view_is, c.in-Array-Some-Number.is-0, e, c.set.ensures) (λ q. sub_seen_word _ _ _ r.0 q)
 
 pub returns-in-Slot-Some-Entry-clause-put : goal.returns-in-Slot-Some-Entry-clause-put
 returns-in-Slot-Some-Entry-clause-put c =
     let e : c.args.value ≡ Some (Entry c.in-Slot-Some-Entry.entry) = cc in
     let r = rw (← c.self.view_is, c.in-Slot-Some-Entry.is-0, e) at c.requires in
-    rw (← c.self.view_is, c.in-Slot-Some-Entry.is-0, e) (λ q. sub_seen_slot _ _ _ r q)
+    rw (← c.self.view_is, c.in-Slot-Some-Entry.is-0, e, c.set-in-Slot-Some-Entry.ensures) (λ q. sub_seen_slot _ _ _ r q)

@@ -1,0 +1,2 @@
+pub mod Conversing
+pub mod Watching
