@@ -1,10 +1,10 @@
-//! Summaries of records: 64 bits, of which each place has one. A record names no place whose bit is
-//! clear, so a search passes most records by one test.
-ghost use Rattle.std.specs.Prelude.{◌≡◌, ◌<◌, ◌==◌, ◌++◌, map};
+//! Summaries of records: 64 bits, of which each place has one, and a request two. A record names no
+//! place of which a bit is clear, so a search passes most records by one test.
+ghost use Rattle.std.specs.Prelude.{◌≡◌, ◌<◌, ◌&&◌, ◌==◌, ◌++◌, map};
 ghost use Rattle.std.specs.Int.{bit_at};
 ghost use Rattle.places.specs.All.{all_changes};
 ghost use Rattle.places.specs.Runs.{run_changes};
-ghost use Rattle.places.specs.Summaries.{bit_of, HasAll, Summed};
+ghost use Rattle.places.specs.Summaries.{bit_of, group_bit_of, HasAll, HasBits, Summed};
 
 use crate::notes::completions::CompletionNote;
 use crate::notes::kept::Kept;
@@ -16,32 +16,59 @@ use crate::place::Place;
 /// The bit of all bytes.
 const BYTES: u32 = 63;
 
-/// Returns the number of a place's bit.
-#[tactic(auto, unfolding(crate::specs::Summaries::bit_of))]
-fn bit(place: Place) -> u32
-    ensures value { result ≡ bit_of place }
-    ensures small { result < 64 }
+/// How many successive requests share their second bit: as many as the largest batch has.
+const GROUP: u32 = 4096;
+
+/// Returns the numbers of a place's bits.
+#[tactic(auto, unfolding(crate::specs::Summaries::bit_of, crate::specs::Summaries::group_bit_of))]
+fn bits_of(place: Place) -> (u32, u32)
+    ensures first { result.0 ≡ bit_of place }
+    ensures second { result.1 ≡ group_bit_of place }
+    ensures small { result.0 < 64 }
+    ensures small_second { result.1 < 64 }
 {
     match place.kind() {
-        20 => place.index() % 32,
-        9 | 10 | 11 | 16 => BYTES,
-        kind => 32 + ((u64::from(kind) + u64::from(place.index())) % 31) as u32,
+        20 => (place.index() % 16, 16 + place.index() / GROUP % 16),
+        9 | 10 | 11 | 16 => (BYTES, BYTES),
+        kind => {
+            let bit = 32 + ((u64::from(kind) + u64::from(place.index())) % 31) as u32;
+            (bit, bit)
+        }
     }
 }
 
-/// Returns whether the bits have that of a place.
-pub fn has_place(bits: u64, place: Place) -> bool
-    ensures { result ≡ (bit_at bits (bit_of place) == 1) }
+/// Returns whether the summary has the bits of a place.
+pub fn has_place(summary: u64, place: Place) -> bool
+    ensures { result ≡ (bit_at summary (bit_of place) == 1)
+        && (bit_at summary (group_bit_of place) == 1) }
 {
-    bits & (1 << bit(place)) != 0
+    let (first, second) = bits_of(place);
+    has_bit(summary, first) && has_bit(summary, second)
 }
 
-// Adds the bit of a place.
-fn with_place(bits: u64, place: Place) -> u64
-    ensures set { bit_at result (bit_of place) ≡ 1 }
-    ensures kept { HasAll bits result }
+fn has_bit(summary: u64, bit: u32) -> bool
+    requires { bit < 64 }
+    ensures { result ≡ (bit_at summary bit == 1) }
 {
-    bits | 1 << bit(place)
+    summary & (1 << bit) != 0
+}
+
+// Adds the bits of a place.
+fn with_place(summary: u64, place: Place) -> u64
+    ensures set { HasBits result place }
+    ensures kept { HasAll summary result }
+{
+    let (first, second) = bits_of(place);
+    with_bit(with_bit(summary, first), second)
+}
+
+// Adds a bit.
+fn with_bit(summary: u64, bit: u32) -> u64
+    requires { bit < 64 }
+    ensures set { bit_at result bit ≡ 1 }
+    ensures kept { HasAll summary result }
+{
+    summary | 1 << bit
 }
 
 // Adds the bits of the places of notes.
