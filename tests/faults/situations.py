@@ -203,9 +203,10 @@ def calls_of_states():
 def calls_of_walkers():
     # The allocations that must succeed: those of the lists that grow, and of copies of the state at 4, 8 and 12.
     yield Situation("extend", "twelve_ticks", 2, 1, answers=[(2, event) for event in (1, 2, 5, 6, 9)], rising=True)
-    yield Situation("goto", "ticks", 9, 5, answers=((2, 0),))
+    yield Situation("goto", "all_opcodes", 30, 5, answers=((2, 0),))
+    for call in ("goto", "move_to"):
+        yield Situation(call, "ticks", 9, 5, quiet=True)
     yield Situation("goto", "ticks", 10, 9, quiet=True)
-    yield Situation("move_to", "ticks", 9, 5, answers=((2, 0),))
     yield Situation("move_to", "all_opcodes", 3, 30, answers=((2, 0),))
     yield Situation("last_state", "all_opcodes", 3)
     yield Situation("back", "ticks", 10, quiet=True)
