@@ -115,7 +115,9 @@ fn read_instructions(
     ensures { Gives (λ x. (x.0.items, x.1)) result
         (items_at (λ before. instruction_at slots) count [] cursor.entry) }
 {
-    let mut program = Vec::new(alloc);
+    // An instruction has at least one byte.
+    let room = cursor.rest().len();
+    let mut program = Vec::with_capacity(alloc, room.min(count as usize))?;
     let mut rest = cursor;
     for _ in 0..count {
         let (instruction, after) = read_instruction(alloc, slots, rest)?;

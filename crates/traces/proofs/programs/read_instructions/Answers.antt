@@ -10,7 +10,7 @@ loop-preserved c =
 
 pub returns-in_err-instruction : goal.returns-in_err-instruction
 returns-in_err-instruction c =
-    let p = err_from_is_err_and c.from_residual.result c.from_residual.ensures.1 in
+    let p = err_from_is_err_and c.from_residual-in_err-instruction.result c.from_residual-in_err-instruction.ensures.1 in
     rw (p.1, p.2)
     (ends (λ before. instruction_at c.args.slots) c.args.count c.loop.counter c.loop.program.items c.loop.rest c.in_err-instruction.field-0.0 _ c.loop-test.true c.in_err-instruction.ensures c.loop.invariant)
 
