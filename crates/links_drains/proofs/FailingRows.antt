@@ -1,8 +1,8 @@
 -- The requests of a batch that complete as they are submitted, computed row by row.
-use Rattle.links_drains.proofs.Common.{◌≡◌, ℕ, ℤ, zero, suc, Bool, true, false, cond, refl, sym, ◌∙◌, ap, List, [], ◌∷◌, ◌++◌, take, drop, length, replicate, get_or, ◌<◌, ◌≤◌, ◌+◌, ◌-◌, arith, Option, Some, None, option_map, is_some, slice_get, slice_set, ◌==◌, ◌&&◌, ◌||◌, option_and_then, cons_option, list_any, enumerate_from, eq-eqb, eqb-true, ne_eqb, and_left, and_right, get_or-drop, length-drop, length-set, length-replicate, length-take-le, take_all, slice_get-get_or, get_or_from_slice_get, Sqe, Row, slice_get-set, WorldState, chain_fails, chain_of, error_at, error_of, rows_of, direct_result, ecanceled, given, or_else, paired, endings_from, is_unfinished}
+use Rattle.links_drains.proofs.Common.{◌≡◌, ℕ, ℤ, zero, suc, Bool, true, false, cond, refl, sym, ◌∙◌, ap, map, List, [], ◌∷◌, ◌++◌, take, drop, length, replicate, get_or, ◌<◌, ◌≤◌, ◌+◌, ◌-◌, arith, Option, Some, None, option_map, is_some, slice_get, slice_set, ◌==◌, ◌&&◌, ◌||◌, option_and_then, cons_option, list_any, enumerate_from, eq-eqb, eqb-true, ne_eqb, and_left, and_right, get_or-drop, length-drop, length-set, length-replicate, length-take-le, take_all, slice_get-get_or, get_or_from_slice_get, Sqe, Row, slice_get-set, WorldState, chain_fails, chain_of, error_at, error_of, errors_of, rows_of, direct_of, direct_result, ecanceled, given, or_else, paired, endings_from, is_unfinished}
 use Rattle.std.proofs.lemmas.List.FromFn.{length-enumerate_from}
 use Rattle.std.proofs.lemmas.List.Folds.{list_any-append}
-use Rattle.links_drains.proofs.Batching.{element_there, length-rows_of, take_more}
+use Rattle.links_drains.proofs.Batching.{element_there, length-rows_of, one_fails, take_more}
 use Rattle.links_drains.proofs.Chains.{became, chain_before, enumerated}
 use Rattle.links_drains.proofs.Listing.{result_of, endings_step}
 
@@ -145,3 +145,26 @@ ends_more w first es rows i d failing c b o p batch h known e g k =
         ap (λ c. cond c (test (first + i) row) None) queued
         ∙ (let m : first + i - first ≡ i = omega arith in ap (direct_result w es) m)
         ∙ ap (λ c. or_else (error_at w es i) (given c ecanceled)) (sym fails_so) ∙ sym g
+
+-- ---- A batch in which no entry fails
+
+ends_none : (f : ℕ → Row → Option ℤ) (n : ℕ) (rows : List Row) → ((r : ℕ) (row : Row) → f r row ≡ None) → endings_from f n rows ≡ []
+ends_none f n [] h = refl
+ends_none f n (row ∷ rows) h = grind (arith, h n row, ends_none f (n + 1) rows h)
+
+fails_none : (f : ℕ × Sqe → Option ℤ) (test : ℕ × Sqe → Bool) (ps : List (ℕ × Sqe)) → list_any is_some (map f ps) ≡ false → list_any (λ p. test p && is_some (f p)) ps ≡ false
+fails_none f test [] h = refl
+fails_none f test (p ∷ ps) h = grind (arith, fails_none f test ps)
+
+pub direct_none : (w : WorldState) (first : ℕ) (es : List Sqe) → list_any is_some (errors_of w es) ≡ false → direct_of w first es ≡ []
+direct_none w first es h = ends_none _ first (rows_of w first es) (λ r row. passes (r - first))
+  where
+    valid : (i : ℕ) (o : Option Sqe) → slice_get es i ≡ o → option_and_then (error_of w es i) o ≡ None
+    valid i None g = refl
+    valid i (Some e) g = grind (arith, one_fails w es i e g)
+
+    chain_passes : (chain : ℕ) → chain_fails w es chain ≡ false
+    chain_passes chain = fails_none (λ p. error_of w es p.0 p.1) (λ p. chain_of es p.0 == chain) (enumerate_from 0 es) h
+
+    passes : (i : ℕ) → direct_result w es i ≡ None
+    passes i = rw (valid i (slice_get es i) refl, chain_passes (chain_of es i)) refl

@@ -1,7 +1,8 @@
 //! Requests that complete as they are submitted, because an entry of their chain is invalid
 //! (io_uring_enter(2)).
-ghost use Rattle.std.specs.Prelude.{◌≡◌, ◌+◌, ◌<◌, ◌≤◌, ℕ, IfOk, Some, drop, length, slice_get};
-ghost use Rattle.links_drains.specs.Batches.{previous_in, chain_fails, direct_of, error_at, rows_of, shown_on as shown_by};
+ghost use Rattle.std.specs.Prelude.{◌≡◌, ◌+◌, ◌<◌, ◌≤◌, ℕ, IfOk, Some, drop, is_some, length, slice_get};
+ghost use Rattle.std.specs.List.{list_any};
+ghost use Rattle.links_drains.specs.Batches.{previous_in, chain_fails, direct_of, error_at, errors_of, rows_of, shown_on as shown_by};
 ghost use Rattle.links_drains.specs.Endings.{ecanceled, given, or_else};
 
 use crate::links::is_linked;
@@ -56,6 +57,9 @@ pub(crate) fn direct_ends(
     requires few { first + length entries.now ≤ 65536 }
     ensures { IfOk result (λ direct. direct.items ≡ direct_of world.now first entries.now) }
 {
+    if !any_fails(world, entries) {
+        return Ok(Vec::new(alloc));
+    }
     let failing = failing_chains(alloc, world, entries, first, rows)?;
     let mut direct = Vec::new(alloc);
     for i in 0..entries.len() {
@@ -66,6 +70,18 @@ pub(crate) fn direct_ends(
         }
     }
     Ok(direct)
+}
+
+// Returns whether some entry of a batch fails as it is submitted.
+fn any_fails(world: &World, entries: &[Sqe]) -> bool
+    ensures { result ≡ list_any is_some (errors_of world.now entries.now) }
+{
+    for i in 0..entries.len() {
+        if error_at(world, entries, i).is_some() {
+            return true;
+        }
+    }
+    false
 }
 
 // For each chain of a batch, says whether one of its entries fails. The index is that of the

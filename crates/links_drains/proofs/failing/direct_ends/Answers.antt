@@ -1,9 +1,13 @@
 use Rattle.std.proofs.Common.{◌∙◌, ◌+◌, ◌-◌, ◌++◌, ◌∷◌, [], Some, sym, ap, drop, get_or, w32, FitsSigned, rules, arith}
 use Rattle.std.proofs.lemmas.Int.{to_z-of_z}
 use Rattle.links_drains.proofs.Common.{append-nil, take_all, slice_get_within, Row, direct_result, endings_from}
-use Rattle.links_drains.proofs.FailingRows.{many, row_in_batch, there_in_batch, unit_low, unit_high, ends_more}
+use Rattle.links_drains.proofs.FailingRows.{many, row_in_batch, there_in_batch, unit_low, unit_high, ends_more, direct_none}
 use Rattle.links_drains.proofs.failing.direct_ends.Goals as goal
 use Rattle.links_drains.proofs.failing.direct_ends.Goals.{in-Some+in_ok-push, in_default}
+
+pub returns-then-not-any_fails : goal.returns-then-not-any_fails
+returns-then-not-any_fails c =
+    c.new.ensures.items ∙ sym (direct_none c.args.world.now c.args.first c.args.entries.now (search rules))
 
 pub index-row-requires : goal.index-row-requires
 index-row-requires c = (omega arith, there_in_batch c.args.world.now c.args.first c.args.entries.now c.args.rows.now c.loop-i.i c.requires.batch c.loop-i-test.true)
