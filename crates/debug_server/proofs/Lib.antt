@@ -17,3 +17,4 @@ pub mod EagerRuns
 pub mod Walks
 pub mod Again
 pub mod SessionsAgain
+pub mod Replays

@@ -5,13 +5,14 @@ use Rattle.scenario.specs.declared.event.Event.{Event}
 use Rattle.scenario.specs.declared.event.Refusal.{Refusal}
 use Rattle.scenario.specs.declared.setup.Setup.{Setup}
 use Rattle.machine.specs.Runs.{start, Accepts}
+use Rattle.traces.specs.declared.fault.TraceFault.{TraceFault}
 use Rattle.debug_server.specs.SessionStates.{SessionState, SessionValue}
-use Rattle.debug_server.specs.Kinds.{IsOf, is_kind, OfSchedule, OfServing, OfMemory}
+use Rattle.debug_server.specs.Kinds.{IsOf, is_kind, OfSchedule, OfServing, OfMemory, OfTrace}
 use Rattle.debug_server.specs.Schedules.{state_over}
 use Rattle.debug_server.specs.Transcripts.{Streams}
 use Rattle.debug_server.specs.Walked.{Replied, BrokenBy, Walked, BrokenOff}
 use Rattle.debug_server.specs.declared.faults.RunFault.{RunFault}
-use Rattle.debug_server.specs.declared.faults.RunFault.TheVariants.{Schedule, Serve, Memory}
+use Rattle.debug_server.specs.declared.faults.RunFault.TheVariants.{Schedule, Serve, Memory, Trace}
 use Rattle.debug_server.specs.declared.faults.ServeFault.{ServeFault}
 use Rattle.debug_server.proofs.Alone.{served_at, broke_at}
 
@@ -39,6 +40,10 @@ pub no_schedule : {A : Type 0} (v : SessionState) (before after : Streams) (r : 
 no_schedule v before after (Ok x) X h = h
 no_schedule v before after (Err e) X h = λ i n k. let same : Schedule i n ≡ Serve h.fault = sym k ∙ h.is_serve in absurd (cc)
 
+pub no_trace : {A : Type 0} (v : SessionState) (before after : Streams) (r : Result A RunFault) (X : TraceFault → Type 0) → IfErr r (BrokenBy v before after) → IfErr r (λ e. (f : TraceFault) → e ≡ Trace f → X f)
+no_trace v before after (Ok x) X h = h
+no_trace v before after (Err e) X h = λ f k. let same : Trace f ≡ Serve h.fault = sym k ∙ h.is_serve in absurd (cc)
+
 pub no_memory : {A : Type 0} (v : SessionState) (before after : Streams) (r : Result A RunFault) (X : Type 0) → IfErr r (BrokenBy v before after) → IfErr r (λ e. e ≡ Memory → X)
 no_memory v before after (Ok x) X h = h
 no_memory v before after (Err e) X h = λ k. let same : Memory ≡ Serve h.fault = sym k ∙ h.is_serve in absurd (cc)
@@ -56,3 +61,10 @@ served e f k = rw k refl
 pub of_run : {A : Type 0} (v : SessionState) (before after : Streams) (r : Result A RunFault) → IfErr r (BrokenBy v before after) → IfErr r (IsOf (OfSchedule ∷ OfServing ∷ OfMemory ∷ []))
 of_run v before after (Ok x) h = h
 of_run v before after (Err e) h = served e h.fault h.is_serve
+
+served_of_trace : (e : RunFault) (f : ServeFault) → e ≡ Serve f → IsOf (OfTrace ∷ OfSchedule ∷ OfServing ∷ OfMemory ∷ []) e
+served_of_trace e f k = rw k refl
+
+pub of_replay : {A : Type 0} (v : SessionState) (before after : Streams) (r : Result A RunFault) → IfErr r (BrokenBy v before after) → IfErr r (IsOf (OfTrace ∷ OfSchedule ∷ OfServing ∷ OfMemory ∷ []))
+of_replay v before after (Ok x) h = h
+of_replay v before after (Err e) h = served_of_trace e h.fault h.is_serve

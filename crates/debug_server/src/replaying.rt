@@ -16,7 +16,8 @@ ghost use Rattle.debug_server.specs.Transcripts.{streams};
 ghost use Rattle.debug_server.specs.Walked.{Walked, BrokenOff};
 
 use crate::faults::RunFault;
-use crate::walking::walk_events;
+use crate::session::Session;
+use crate::walking::reply_to_all;
 use std::alloc::Global;
 use std::io::{Read, Write};
 use traces::{TraceFault, read_trace2};
@@ -65,6 +66,6 @@ pub fn replay<R: Read, W: Write>(
         Err(TraceFault::Memory) => return Err(RunFault::Memory),
         Err(fault) => return Err(RunFault::Trace(fault)),
     };
-    walk_events(alloc, &setup, &events, reader, writer)?;
-    Ok(())
+    let session = Session::owning(alloc, setup, &events)?;
+    reply_to_all(session, reader, writer)
 }

@@ -85,6 +85,27 @@ impl Session {
         session_of(alloc, setup, events)
     }
 
+    /// The same as `of`, but keeps the setup itself and not a copy.
+    pub(crate) fn owning(
+        alloc: Global,
+        setup: Setup,
+        events: &[Event],
+    ) -> Result<Session, RunFault>
+        requires starts { setup_refusal setup ≡ None }
+        requires most { length events.now ≤ 1048576 }
+        ensures ok { IfOk result (λ s. s
+            ≡ record { state = state_over setup events.now; is_closed = false }) }
+        ensures accepts { OnOk result (Accepts (start setup) events.now) }
+        ensures schedule { IfErr result (λ e. (i : ℕ) → (n : Refusal) → e ≡ RunFault.Schedule i n
+            → IsRefused setup events.now i n) }
+        ensures other { IfErr result (IsOf (OfSchedule ∷ OfMemory ∷ [])) }
+    {
+        match Walker::of(alloc, setup, CHECKPOINT_EVERY, WINDOW) {
+            Ok(walker) => session_at_end(alloc, walker, events),
+            Err(_) => Err(RunFault::Memory),
+        }
+    }
+
     /// Opens a session over a script's setup, without events. A source can supply events later.
     pub fn live(alloc: Global, script: &Script) -> Result<Session, RunFault>
         ensures ok { IfOk result (λ s. s
@@ -161,9 +182,24 @@ fn session_of(alloc: Global, setup: &Setup, events: &[Event]) -> Result<Session,
         → IsRefused setup.now events.now i n) }
     ensures other { IfErr result (IsOf (OfSchedule ∷ OfMemory ∷ [])) }
 {
-    let Ok(mut walker) = Walker::with(alloc, setup, CHECKPOINT_EVERY, WINDOW) else {
-        return Err(RunFault::Memory);
-    };
+    match Walker::with(alloc, setup, CHECKPOINT_EVERY, WINDOW) {
+        Ok(walker) => session_at_end(alloc, walker, events),
+        Err(_) => Err(RunFault::Memory),
+    }
+}
+
+// Runs events from the start of a walk that has none, and opens a session at their end.
+fn session_at_end(alloc: Global, walker: Walker, events: &[Event]) -> Result<Session, RunFault>
+    requires fresh { walker ≡ opened walker.setup }
+    requires most { length events.now ≤ 1048576 }
+    ensures ok { IfOk result (λ s. s
+        ≡ record { state = state_over walker.setup events.now; is_closed = false }) }
+    ensures accepts { OnOk result (Accepts (start walker.setup) events.now) }
+    ensures schedule { IfErr result (λ e. (i : ℕ) → (n : Refusal) → e ≡ RunFault.Schedule i n
+        → IsRefused walker.setup events.now i n) }
+    ensures other { IfErr result (IsOf (OfSchedule ∷ OfMemory ∷ [])) }
+{
+    let mut walker = walker;
     match run_through(&mut walker, events) {
         Ok(()) => Ok(over_walk(alloc, walker)),
         Err(fault) => Err(fault),

@@ -122,9 +122,9 @@ pub fn walk_events<R: Read, W: Write>(
     reply_to_all(session, reader, writer)
 }
 
-// Replies to the reader's lines, without a source. The program ends after the last of them, so the
-// session is forgotten, which takes no time, and not freed record by record.
-fn reply_to_all<R: Read, W: Write>(
+/// Replies to the reader's lines, without a source. The program ends after the last of them, so the
+/// session is forgotten, which takes no time, and not freed record by record.
+pub(crate) fn reply_to_all<R: Read, W: Write>(
     session: Session,
     reader: &mut R,
     writer: &mut W,

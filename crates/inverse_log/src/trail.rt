@@ -60,18 +60,21 @@ impl Trail {
     {
         let state = State::new(alloc, setup)?;
         match setup.copy(alloc) {
-            Ok(setup) => Ok(Trail {
-                alloc,
-                setup,
-                events: Vec::new(alloc),
-                records: Vec::new(alloc),
-                at: 0,
-                state,
-                spare: None,
-                walked: 0,
-            }),
+            Ok(setup) => Ok(at_start(alloc, setup, state)),
             Err(_) => Err(SetupRefusal::Memory),
         }
+    }
+
+    /// The same as `new`, but keeps the setup itself and not a copy.
+    pub fn of(alloc: Global, setup: Setup) -> Result<Trail, SetupRefusal>
+        ensures fresh { IfOk result (λ t. t
+            ≡ record { setup = setup; events = []; at = 0; walked = 0 }) }
+        ensures refused { (r : SetupRefusal) → setup_refusal setup ≡ Some r → result ≡ Err r }
+        ensures only_memory { IfErr result (λ r. setup_refusal setup ≡ None
+            → r ≡ SetupRefusal.Memory) }
+    {
+        let state = State::new(alloc, &setup)?;
+        Ok(at_start(alloc, setup, state))
     }
 
     /// Returns the setup that the run starts from.
@@ -360,6 +363,23 @@ impl Trail {
             }
         }
         Ok(copies)
+    }
+}
+
+// Returns a run without events, given the state that its setup starts from.
+fn at_start(alloc: Global, setup: Setup, state: State) -> Trail
+    requires { state ≡ start setup }
+    ensures { result ≡ record { setup = setup; events = []; at = 0; walked = 0 } }
+{
+    Trail {
+        alloc,
+        setup,
+        events: Vec::new(alloc),
+        records: Vec::new(alloc),
+        at: 0,
+        state,
+        spare: None,
+        walked: 0,
     }
 }
 

@@ -5,6 +5,7 @@ ghost use Rattle.scenario.specs.declared.event.Refusal.{Refusal};
 ghost use Rattle.scenario.specs.declared.setup.SetupRefusal.{SetupRefusal};
 ghost use Rattle.machine.specs.Runs.{start, run, Accepts, Linked, setup_refusal};
 ghost use Rattle.inverse_log.specs.Tracks.{current};
+ghost use Rattle.inverse_log.specs.Walks.{fresh_with};
 
 use crate::refusal::{ExtendRefusal, WalkRefusal};
 use crate::trail::{Tally, Trail};
@@ -56,7 +57,7 @@ impl Model for Walker {
 
 impl Walker {
     ghost use Rattle.inverse_log.specs.Tracks.{Covers, RefusedAt, Recorded};
-    ghost use Rattle.inverse_log.specs.Walks.{here, ending, fresh, fresh_with, moved, jumped, gone, steps_to, extended};
+    ghost use Rattle.inverse_log.specs.Walks.{here, ending, fresh, moved, jumped, gone, steps_to, extended};
 
     /// Returns a run without events, at its start, with a checkpoint each 1,024 events and a window
     /// of 256. Fails as `State::new` does: if the setup breaks a limit, or with `Memory`.
@@ -83,11 +84,25 @@ impl Walker {
         ensures only_memory { IfErr result (λ r. setup_refusal setup.now ≡ None
             → r ≡ SetupRefusal.Memory) }
     {
-        let mut trail = Trail::new(alloc, setup)?;
-        match kept_first(alloc, &mut trail, every, window) {
-            Ok(kept) => Ok(Walker { alloc, trail, kept }),
-            Err(_) => Err(SetupRefusal::Memory),
-        }
+        let trail = Trail::new(alloc, setup)?;
+        over_trail(alloc, trail, every, window)
+    }
+
+    /// The same as `with`, but keeps the setup itself and not a copy.
+    pub fn of(
+        alloc: Global,
+        setup: Setup,
+        every: u32,
+        window: u32,
+    ) -> Result<Walker, SetupRefusal>
+        requires { 0 < every }
+        ensures fresh { IfOk result (λ w. w ≡ fresh_with setup every window) }
+        ensures refused { (r : SetupRefusal) → setup_refusal setup ≡ Some r → result ≡ Err r }
+        ensures only_memory { IfErr result (λ r. setup_refusal setup ≡ None
+            → r ≡ SetupRefusal.Memory) }
+    {
+        let trail = Trail::of(alloc, setup)?;
+        over_trail(alloc, trail, every, window)
     }
 
     /// Returns the setup that the run starts from.
@@ -331,6 +346,25 @@ impl Walker {
             self.trail
                 .on_from(copy, nearest as usize, moment as usize, tally)
         }
+    }
+}
+
+// Returns a walker over a run without events. It fails only by an allocation failure.
+fn over_trail(
+    alloc: Global,
+    trail: Trail,
+    every: u32,
+    window: u32,
+) -> Result<Walker, SetupRefusal>
+    requires some { 0 < every }
+    requires fresh { trail ≡ record { setup = trail.setup; events = []; at = 0; walked = 0 } }
+    ensures fresh { IfOk result (λ w. w ≡ fresh_with trail.setup every window) }
+    ensures only_memory { IfErr result (λ r. r ≡ SetupRefusal.Memory) }
+{
+    let mut trail = trail;
+    match kept_first(alloc, &mut trail, every, window) {
+        Ok(kept) => Ok(Walker { alloc, trail, kept }),
+        Err(_) => Err(SetupRefusal::Memory),
     }
 }
 
