@@ -86,11 +86,7 @@ impl Session {
     }
 
     /// The same as `of`, but keeps the setup itself and not a copy.
-    pub(crate) fn owning(
-        alloc: Global,
-        setup: Setup,
-        events: &[Event],
-    ) -> Result<Session, RunFault>
+    pub(crate) fn owning(alloc: Global, setup: Setup, events: &[Event]) -> Result<Session, RunFault>
         requires starts { setup_refusal setup ≡ None }
         requires most { length events.now ≤ 1048576 }
         ensures ok { IfOk result (λ s. s

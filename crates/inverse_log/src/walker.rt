@@ -89,12 +89,7 @@ impl Walker {
     }
 
     /// The same as `with`, but keeps the setup itself and not a copy.
-    pub fn of(
-        alloc: Global,
-        setup: Setup,
-        every: u32,
-        window: u32,
-    ) -> Result<Walker, SetupRefusal>
+    pub fn of(alloc: Global, setup: Setup, every: u32, window: u32) -> Result<Walker, SetupRefusal>
         requires { 0 < every }
         ensures fresh { IfOk result (λ w. w ≡ fresh_with setup every window) }
         ensures refused { (r : SetupRefusal) → setup_refusal setup ≡ Some r → result ≡ Err r }
@@ -350,12 +345,7 @@ impl Walker {
 }
 
 // Returns a walker over a run without events. It fails only by an allocation failure.
-fn over_trail(
-    alloc: Global,
-    trail: Trail,
-    every: u32,
-    window: u32,
-) -> Result<Walker, SetupRefusal>
+fn over_trail(alloc: Global, trail: Trail, every: u32, window: u32) -> Result<Walker, SetupRefusal>
     requires some { 0 < every }
     requires fresh { trail ≡ record { setup = trail.setup; events = []; at = 0; walked = 0 } }
     ensures fresh { IfOk result (λ w. w ≡ fresh_with trail.setup every window) }
