@@ -155,6 +155,30 @@ def findings(checks, adapter, run):
     adapter.body("setExceptionBreakpoints", filters=[])
 
 
+def restarts_to_a_fault(checks, run):
+    """Launches and restarts a run that stops only at faults: each time the text is that of the fault, and not of a note before it."""
+    fault = next(it for it in run.findings if it["fault"])
+    first = next(it for it in run.findings if it["moment"] == fault["moment"])
+    checks.same("a note before the first fault, at its moment", first["fault"], False)
+    wanted = ("exception", fault["text"], fault["moment"], fault["kind"], fault["text"])
+    with Adapter() as adapter:
+        adapter.start(**run.launch())
+        adapter.body("setExceptionBreakpoints", filters=["faults"])
+        checks.same("the first fault", shown_fault(adapter, adapter.configured()), wanted)
+        for number in (1, 2):
+            adapter.events.clear()
+            adapter.body("restart")
+            stopped = adapter.event("stopped")["body"]
+            checks.same(f"the first fault after restart {number}", shown_fault(adapter, stopped), wanted)
+        checks.same("messages", adapter.end(), [])
+
+
+def shown_fault(adapter, stopped):
+    """Returns what the editor shows where a run stopped: why, the text, the moment, and the exception."""
+    info = adapter.body("exceptionInfo", threadId=RUN)
+    return stopped["reason"], stopped.get("text"), adapter.moment(), info["exceptionId"], info.get("description")
+
+
 def console(checks, adapter, run):
     """Types lines of the program into the console. One that moves sends `continued` and `stopped`, another one neither."""
     jump(checks, adapter, 1)

@@ -336,7 +336,8 @@ impl Debuggee {
         Ok(Reply::of(None))
     }
 
-    /// Sets the breakpoints that the editor set for an earlier run.
+    /// Sets the breakpoints that the editor set for an earlier run. Only their filters are kept:
+    /// where the run stops at findings, they choose the one that it names.
     pub(crate) fn set_all(&mut self, wanted: &Wanted) -> Result<(), Refusal>
         ensures { self.new.session ≡ self.old.session }
     {
@@ -349,6 +350,7 @@ impl Debuggee {
         )?;
         let (watches, _body) = data_of(self.alloc, self.walker(), wanted.data.as_slice())?;
         self.watches = watches;
+        self.wanted.filters = wanted.filters.copy(self.alloc)?;
         if wanted.filters.is_empty() {
             return Ok(());
         }
