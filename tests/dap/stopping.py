@@ -120,6 +120,10 @@ def other_breakpoints(checks, adapter, run):
     body = adapter.body("setFunctionBreakpoints", breakpoints=[{"name": name}, {"name": "finnish"}])
     verified(checks, name, body, [True, False])
     runs_through(checks, adapter, run, name, named, named, "breakpoint")
+    names = [{"name": it} for it in ("issue", name, "finish")]
+    verified(checks, "three names", adapter.body("setFunctionBreakpoints", breakpoints=names), [True] * 3)
+    named = [index for index, it in enumerate(run.events) if it.split(" ")[0] in ("issue", "finish")]
+    runs_through(checks, adapter, run, "three names", named, named, "breakpoint")
     conditional = adapter.body("setFunctionBreakpoints", breakpoints=[{"name": name, "condition": "= 1"}])
     unverified(checks, "a name with a condition", conditional)
     adapter.body("setFunctionBreakpoints", breakpoints=[])
