@@ -82,6 +82,23 @@ commanded r line = record r {
   session = record { state = (reply r.session.state line None).next; is_closed = r.session.is_closed };
 }
 
+-- Whether an expression is a line of the console.
+abbrev pub is_console : Context → Bool
+is_console context.Repl = true
+is_console _ = false
+
+-- Whether a request may move the run: it steps, runs or jumps, or is a line of the console.
+abbrev pub may_move : Request → Bool
+may_move (request.Next a) = true
+may_move (request.StepIn a) = true
+may_move (request.StepOut a) = true
+may_move (request.StepBack a) = true
+may_move (request.Continue id) = true
+may_move (request.ReverseContinue id) = true
+may_move (request.Goto id target) = true
+may_move (request.Evaluate a) = is_console a.context
+may_move _ = false
+
 -- The run after an expression. Only the console's expressions may move it.
 abbrev pub Evaluates : RunState → Context → List ℕ → RunState → Type 0
 Evaluates r context.Repl line r' = r' ≡ commanded r line
