@@ -228,7 +228,7 @@ impl Debuggee {
     pub(crate) fn lines(&self) -> Lines<'_> {
         Lines {
             map: self.map.as_ref(),
-            walker: self.session.walker(),
+            walker: self.searched.walker(),
             base: self.base,
         }
     }
@@ -331,7 +331,8 @@ impl Debuggee {
             return Ok(Reply::of(None));
         }
         self.search()?;
-        self.marks.findings = finding_moments(self.alloc, self.reports(), wanted.as_slice())?;
+        let reports = self.searched.reports();
+        self.marks.findings = finding_moments(self.alloc, reports, wanted.as_slice())?;
         self.wanted.filters = wanted;
         Ok(Reply::of(None))
     }
@@ -355,8 +356,8 @@ impl Debuggee {
             return Ok(());
         }
         self.search()?;
-        let filters = wanted.filters.as_slice();
-        self.marks.findings = finding_moments(self.alloc, self.reports(), filters)?;
+        let (reports, filters) = (self.searched.reports(), wanted.filters.as_slice());
+        self.marks.findings = finding_moments(self.alloc, reports, filters)?;
         Ok(())
     }
 }
