@@ -21,6 +21,7 @@ use Rattle.dap_messages.specs.declared.request.Request.TheVariants as request
 use Rattle.dap_messages.specs.declared.request.StepArguments.{StepArguments}
 use Rattle.dap_views.specs.Threads.{thread_of}
 use Rattle.dap_session.specs.Runs.{RunState, walk_of, len_of, gone_to}
+use Rattle.dap_session.specs.Searches.{StopsAtFindings}
 
 -- The thread with a number. A request for another number is refused.
 abbrev pub thread_at : RunState → ℕ → EditorThread
@@ -125,6 +126,7 @@ Moves r (request.Evaluate a) r' = Evaluates r a.context a.expression r'
 Moves r (request.SetBreakpoints a) r' = SetsMarks r r'
 Moves r (request.SetFunctionBreakpoints a) r' = SetsMarks r r'
 Moves r (request.SetInstructionBreakpoints a) r' = SetsMarks r r'
-Moves r (request.SetExceptionBreakpoints a) r' = SetsMarks r r'
+Moves r (request.SetExceptionBreakpoints a) r' =
+    SetsMarks r r' × StopsAtFindings (walk_of r) a r'.marks.findings
 Moves r (request.SetDataBreakpoints a) r' = SetsWatches r r'
 Moves r _ r' = r' ≡ r

@@ -1,5 +1,7 @@
 //! The requests that set breakpoints.
-ghost use Rattle.std.specs.Prelude.{◌≡◌, OnErr};
+ghost use Rattle.std.specs.Prelude.{◌≡◌, IfOk, OnErr, OnOk};
+ghost use Rattle.dap_session.specs.Runs.{walk_of};
+ghost use Rattle.dap_session.specs.Searches.{StopsAtFindings, finding_moments};
 
 use crate::answer::Reply;
 use crate::breakpoints::{Lines, moment_of, moments_of, name_of};
@@ -214,7 +216,9 @@ pub(crate) fn finding_moments(
     alloc: Global,
     reports: &[Report],
     filters: &[ExceptionFilter],
-) -> Result<Moments, AllocError> {
+) -> Result<Moments, AllocError>
+    ensures { IfOk result (λ ms. ms ≡ finding_moments filters.now reports.now) }
+{
     let mut moments = Vec::new(alloc);
     for report in reports {
         if stops_at(filters, report) {
@@ -323,6 +327,8 @@ impl Debuggee {
         wanted: Items<ExceptionFilter>,
     ) -> Result<Reply, Refusal>
         ensures kept { self.new ≡ record self.old { marks = self.new.marks } }
+        ensures stops { OnOk result
+            (StopsAtFindings (walk_of self.old) wanted self.new.marks.findings) }
         ensures err { OnErr result (self.new ≡ self.old) }
     {
         if wanted.is_empty() {
@@ -330,7 +336,7 @@ impl Debuggee {
             self.wanted.filters = wanted;
             return Ok(Reply::of(None));
         }
-        self.search()?;
+        self.searched.search()?;
         let reports = self.searched.reports();
         self.marks.findings = finding_moments(self.alloc, reports, wanted.as_slice())?;
         self.wanted.filters = wanted;
