@@ -1,8 +1,8 @@
--- A jump and a line of the console keep the findings of a run: both keep its events.
+-- Reports of the findings of a run. A line of the console changes neither its setup nor its events.
 use Rattle.std.proofs.Common.{◌≡◌, ℕ, List, length, nat_le, Bool, true, false, cond, Option, Some, None, Result, Ok, Err, OnOk, OnErr, refl, sym, subst}
 use Rattle.scenario.specs.declared.setup.Setup.{Setup}
 use Rattle.scenario.specs.declared.event.Event.{Event}
-use Rattle.inverse_log.specs.Walks.{Walk, jumped}
+use Rattle.inverse_log.specs.Walks.{Walk}
 use Rattle.commands.specs.declared.command.Command.{Command}
 use Rattle.commands.specs.declared.command.CommandFault.{CommandFault}
 use Rattle.commands.specs.declared.command.Command.TheVariants.{Where, Show, Goto, Back, On, Watch, Break, Unwatch, Cont, Rcont, Sync, Quit}
@@ -11,8 +11,8 @@ use Rattle.findings.specs.Findings.{IsReportOf}
 use Rattle.explanations.specs.ReportLists.{findings_in}
 use Rattle.explanations.specs.declared.reporting.Report.{Report}
 use Rattle.debug_server.specs.Replies.{Reply, is_full, reply, reply_to}
-use Rattle.debug_server.specs.SessionStates.{SessionState, SessionValue, walked_to}
-use Rattle.dap_session.specs.Searches.{AreReportsIfAny, SearchState}
+use Rattle.debug_server.specs.SessionStates.{SessionState, SessionValue}
+use Rattle.dap_session.specs.Searches.{AreReportsIfAny, AreReportsOf}
 
 -- Two walks are through one run.
 abbrev pub IsSameRun : Walk → Walk → Type 0
@@ -52,13 +52,13 @@ reports_stay w v (Some rs) e h =
     let Q : List Event → Type 0 = λ es. IsReportOf w.setup es (findings_in rs) in
     subst Q (sym e.1) (subst P (sym e.0) h)
 
--- A session is at another moment, or is the same if that failed.
-stay : {A E : Type 0} → (r : Result A E) (s t next : SessionValue) (rs : Option (List Report)) → OnOk r (t ≡ next) → OnErr r (t ≡ s) → IsSameRun next.state.walk s.state.walk → AreReportsIfAny s.state.walk rs → AreReportsIfAny t.state.walk rs
-stay (Ok x) s t next rs moved err same h = subst (λ (u : SessionValue). AreReportsIfAny u.state.walk rs) (sym moved) (reports_stay next.state.walk s.state.walk rs same h)
-stay (Err x) s t next rs moved err same h = subst (λ (u : SessionValue). AreReportsIfAny u.state.walk rs) (sym err) h
+-- The reports of a run after a search are those of the run before it.
+pub reports_before : (s t : SessionValue) (reports : List Report) → t ≡ s → AreReportsOf t.state.walk reports → AreReportsOf s.state.walk reports
+reports_before s t reports same h = subst (λ (u : SessionValue). AreReportsOf u.state.walk reports) same h
 
+-- The reports stay those of the run after a line, and if that failed.
 pub stay_at_line : {A E : Type 0} → (r : Result A E) (s t : SessionValue) (line : List ℕ) (rs : Option (List Report)) → OnOk r (t ≡ record { state = (reply s.state line None).next; is_closed = s.is_closed }) → OnErr r (t ≡ s) → AreReportsIfAny s.state.walk rs → AreReportsIfAny t.state.walk rs
-stay_at_line r s t line rs next err h = stay r s t _ rs next err (lines_keep_run s.state line) h
-
-pub stay_at_jump : {A E : Type 0} → (r : Result A E) (s t : SessionValue) (m : ℕ) (rs : Option (List Report)) → OnOk r (t ≡ record { state = walked_to s.state (jumped s.state.walk m); is_closed = s.is_closed }) → OnErr r (t ≡ s) → AreReportsIfAny s.state.walk rs → AreReportsIfAny t.state.walk rs
-stay_at_jump r s t m rs moved err h = stay r s t _ rs moved err (refl, refl) h
+stay_at_line (Ok x) s t line rs next err h =
+    let after = reports_stay (reply s.state line None).next.walk s.state.walk rs (lines_keep_run s.state line) h in
+    subst (λ (u : SessionValue). AreReportsIfAny u.state.walk rs) (sym next) after
+stay_at_line (Err x) s t line rs next err h = subst (λ (u : SessionValue). AreReportsIfAny u.state.walk rs) (sym err) h

@@ -36,12 +36,12 @@ passes f Notes = not (is_fault f.kind)
 abbrev pub stops_at : List ExceptionFilter → Report → Bool
 stops_at filters r = list_any (passes r.finding) filters
 
-abbrev pub moment_of : Report → ℕ
-moment_of r = r.finding.moment
+abbrev pub moment_in : Report → ℕ
+moment_in r = r.finding.moment
 
 -- The moments of the findings that pass a filter, in ascending order.
 abbrev pub finding_moments : List ExceptionFilter → List Report → List ℕ
-finding_moments filters reports = sorted (map moment_of (filter (stops_at filters) reports))
+finding_moments filters reports = sorted (map moment_in (filter (stops_at filters) reports))
 
 -- A run stops at those of its findings that pass a filter. It isn't searched where there is none.
 pub record StopsAtFindings (w : Walk) (filters : List ExceptionFilter) (moments : List ℕ) : Type 0 where

@@ -87,7 +87,6 @@ impl Searched {
     }
 
     /// Jumps to a moment.
-    #[tactic(auto, using(crate::proofs::Searching::stay_at_jump))]
     pub(crate) fn jump(&mut self, moment: usize) -> Result<(), AllocError>
         requires { moment ≤ length self.old.session.state.walk.events }
         ensures moved { OnOk result (self.new.session
@@ -102,7 +101,6 @@ impl Searched {
     }
 
     /// Replies to a line of the console. No line changes the events of a run without a source.
-    #[tactic(auto, using(crate::proofs::Searching::stay_at_line))]
     pub(crate) fn line(&mut self, line: &[u8]) -> Result<Vec<u8>, AllocError>
         ensures next { OnOk result (self.new.session
             ≡ record {

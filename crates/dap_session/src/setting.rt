@@ -1,7 +1,7 @@
 //! The requests that set breakpoints.
-ghost use Rattle.std.specs.Prelude.{◌≡◌, IfOk, OnErr, OnOk};
+ghost use Rattle.std.specs.Prelude.{◌≡◌, IfOk, OnErr, OnOk, filter, map};
 ghost use Rattle.dap_session.specs.Runs.{walk_of};
-ghost use Rattle.dap_session.specs.Searches.{StopsAtFindings, finding_moments};
+ghost use Rattle.dap_session.specs.Searches.{StopsAtFindings, finding_moments, moment_in, stops_at};
 
 use crate::answer::Reply;
 use crate::breakpoints::{Lines, moment_of, moments_of, name_of};
@@ -211,6 +211,22 @@ pub(crate) fn data_of(
     Ok((watches, body))
 }
 
+// Returns the moments of the findings that pass a filter, in the order of the findings.
+fn passing_moments(
+    alloc: Global,
+    reports: &[Report],
+    filters: &[ExceptionFilter],
+) -> Result<Vec<usize>, AllocError>
+    ensures { IfOk result (λ ms. ms.items
+        ≡ map moment_in (filter (stops_at filters.now) reports.now)) }
+{
+    reports
+        .iter()
+        .filter(|report| stops_at(filters, report))
+        .map(|report| report.finding.moment as usize)
+        .collect(alloc)
+}
+
 /// Returns the moments of the findings at which a run stops.
 pub(crate) fn finding_moments(
     alloc: Global,
@@ -219,13 +235,7 @@ pub(crate) fn finding_moments(
 ) -> Result<Moments, AllocError>
     ensures { IfOk result (λ ms. ms ≡ finding_moments filters.now reports.now) }
 {
-    let mut moments = Vec::new(alloc);
-    for report in reports {
-        if stops_at(filters, report) {
-            moments.push(report.finding.moment as usize)?;
-        }
-    }
-    Ok(Moments::from_vec(moments))
+    Ok(Moments::from_vec(passing_moments(alloc, reports, filters)?))
 }
 
 impl Debuggee {
@@ -338,7 +348,8 @@ impl Debuggee {
         }
         self.searched.search()?;
         let reports = self.searched.reports();
-        self.marks.findings = finding_moments(self.alloc, reports, wanted.as_slice())?;
+        let moments = finding_moments(self.alloc, reports, wanted.as_slice())?;
+        self.marks.findings = moments;
         self.wanted.filters = wanted;
         Ok(Reply::of(None))
     }
