@@ -1,6 +1,6 @@
 """Random programs: scripts of one or two threads over files, a pipe and an eventfd, with chains, drains, timers, cancels
 and polls, with a poller or without, with `submit_all` or without. Their schedule is empty. A program is the same for the
-same generator of random numbers."""
+same generator of random numbers. Long programs are for live runs: they have up to three threads, and no drains."""
 NOP, FSYNC, POLL_ADD, POLL_REMOVE, TIMEOUT, TIMEOUT_REMOVE = 0, 3, 6, 7, 11, 12
 ASYNC_CANCEL, LINK_TIMEOUT, READ, WRITE = 14, 15, 22, 23
 IO_DRAIN, IO_LINK, IO_HARDLINK = 2, 4, 8
@@ -66,3 +66,31 @@ def setup(pick):
         "threads": [thread(pick, entries) for _ in range(pick.randrange(1, 3))],
         "schedule": [],
     }
+
+
+def long_thread(pick, slots, sqpoll, most_reaped):
+    """The instructions of a thread that uses some of the slots. It reaps no more completions than it submits plain NOPs, so
+    that it doesn't wait for requests that never complete."""
+    program = []
+    wanted = pick.choice([1000, 3500])
+    while len(program) < wanted:
+        plain = pick.randrange(3)
+        entries = [{"op": NOP, "ud": pick.randrange(1, 9)}] * plain + [entry(pick) for _ in range(pick.randrange(4))]
+        for it in entries:
+            slot = pick.choice(slots)
+            program += [["put", slot, {**it, "flags": it.get("flags", 0) & ~IO_DRAIN}], ["push", slot]]
+        program += [["enter", 0, 0, 3]] if sqpoll else [["enter", 4096, 0, pick.choice([0, 1, 1, 3])]] * 3
+        program += [["reap"]] * min(plain, most_reaped)
+        if pick.random() < 0.3:
+            program.append(["store", pick.randrange(64), pick.randbytes(pick.randrange(1, 12)).hex()])
+    return program
+
+
+def long_setup(pick):
+    """A random script without its schedule, whose threads have up to 3,500 instructions. If they don't reap, completions
+    overflow."""
+    it = setup(pick)
+    it["entries"], it["cq"] = pick.choice([(64, 8192), (64, 128), (512, 2048)])
+    threads, most_reaped = pick.randrange(1, 4), pick.randrange(3)
+    it["threads"] = [long_thread(pick, range(at, it["entries"], threads), it["sqpoll"], most_reaped) for at in range(threads)]
+    return it

@@ -138,14 +138,8 @@ holder_found = grind arith
 pub holder_passed : (fd : ℕ) (rows : List Row) (from at r : ℕ) (row : Row) → NoHolder fd rows from at → IsNextIssued rows at r → slice_get rows r ≡ Some row → holds_now fd row ≡ false → NoHolder fd rows from (r + 1)
 holder_passed = grind arith
 
-pub holder_after : (fd : ℕ) (rows : List Row) (from start r : ℕ) → from ≤ start → NoHolder fd rows from start → IsNextWhere (holds_now fd) rows start r → IsNextWhere (holds_now fd) rows from r
-holder_after = grind arith
-
 pub no_holder : (fd : ℕ) (rows : List Row) (from at : ℕ) → NoHolder fd rows from at → NoHolder fd rows at (length rows) → NoneWhere (holds_now fd) rows from
 no_holder fd rows from at g h q row l there = joined_ranges fd rows from at (length rows) g h q row l (slice_get_within rows q row there) there
-
-pub no_holder_left : (fd : ℕ) (rows : List Row) (from at end : ℕ) → NoHolder fd rows from at → end ≤ at → NoHolder fd rows from end
-no_holder_left fd rows from at end g h r row l k there = g r row l (omega (arith, h, k)) there
 
 pub no_issued : (fd : ℕ) (rows : List Row) (from at end : ℕ) → NoHolder fd rows from at → NoneIssuedFrom rows at → NoHolder fd rows from end
 no_issued fd rows from at end g n q row l k there = elim (cases_lt q at) [ inl less ↦ g q row l less there | inr more ↦ and_left _ _ (n q row more there) ]

@@ -223,8 +223,8 @@ impl Finder {
         Some(at.max(next % BLOCKS * BLOCK))
     }
 
-    /// Returns the first request from a number on that holds the descriptor. Examines issued
-    /// requests of the marked blocks only.
+    /// Returns the first request from a number on that holds the descriptor. Examines only issued
+    /// requests, and passes over blocks without a mark.
     pub(crate) fn next_holder(
         &self,
         rows: &Rows,
@@ -240,11 +240,11 @@ impl Finder {
     {
         let mut at = from;
         while let Some(start) = self.next_block(rows, fd, at) {
-            let end = (start / BLOCK + 1) * BLOCK;
-            if let Some(r) = next_holder_before(rows, index, fd, start, end) {
+            let r = index.next_issued(start)?;
+            if holds(&rows[r], fd) {
                 return Some(r);
             }
-            at = end;
+            at = r + 1;
         }
         None
     }
@@ -259,31 +259,6 @@ impl Finder {
             holding: self.holding.copy(alloc)?,
         })
     }
-}
-
-// Returns the first request of a range that holds the descriptor, or the first one after the range,
-// if it is the next issued request. Examines issued requests only.
-fn next_holder_before(
-    rows: &Rows,
-    index: &Index,
-    fd: u32,
-    start: usize,
-    end: usize,
-) -> Option<usize>
-    requires indexed { Indexed rows.now index.now }
-    requires few { length rows.now ≤ 65536 }
-    ensures some { IfSome result (λ r. IsNextWhere (holds_now fd) rows.now start r) }
-    ensures none { IfNone result (NoHolder fd rows.now start end) }
-{
-    let mut at = start;
-    while at < end {
-        let r = index.next_issued(at)?;
-        if holds(&rows[r], fd) {
-            return Some(r);
-        }
-        at = r + 1;
-    }
-    None
 }
 
 fn hash_of(user_data: u64) -> usize

@@ -1,5 +1,5 @@
 -- Invariants that each change of the machine preserves.
-use Rattle.machine.proofs.Common.{◌≡◌, ℕ, Bool, true, false, refl, sym, ◌∙◌, ap, subst, [], ◌∷◌, ◌++◌, length, ◌+◌, ◌*◌, ◌%◌, ◌<◌, ◌≤◌, ◌^◌, length-append, length-set, arith, length-drop, option_map_or, eqb-true, WorldState, WorldFormed, descriptor_at, OneSetup as OneWorldSetup, uses_descriptor, Cqe, Sqe, Row, Phase, Queued, updated, length-updated, waiting, with_flag, formed_pushed, formed_entry, formed_flag, waiting_more, Direct, Ending, is_guard, is_ended, is_queued, counted-le-length, counted-unfinished, ended-unfinished, ended_of, PutsWithin, counted_in, all_ended, all_started, completion_of, completions_of, delivery, flushed, is_guard_of, is_usable, lacks_descriptor, posted, started, AllGuardsLinked, Mostly, NoneMet, is_asleep, flag_word, RowFormed, WellFormed, ThreadWellFormed, Machine, chained-updated, mapped_at}
+use Rattle.machine.proofs.Common.{◌≡◌, ℕ, Bool, true, false, refl, sym, ◌∙◌, ap, subst, [], ◌∷◌, ◌++◌, length, ◌+◌, ◌*◌, ◌%◌, ◌<◌, ◌≤◌, ◌^◌, length-append, length-set, arith, length-drop, option_map_or, eqb-true, WorldState, WorldFormed, descriptor_at, OneSetup as OneWorldSetup, uses_descriptor, Cqe, Sqe, Row, Phase, Queued, updated, length-updated, waiting, with_flag, formed_pushed, formed_entry, formed_flag, waiting_more, Direct, Ending, is_guard, is_ended, is_queued, counted-le-length, counted-unfinished, ended-unfinished, ended_of, PutsWithin, counted_in, all_ended, all_started, completion_of, completions_of, delivery, flushed, is_guard_of, is_usable, lacks_descriptor, started, AllGuardsLinked, Mostly, NoneMet, is_asleep, flag_word, RowFormed, WellFormed, ThreadWellFormed, Machine, chained-updated, mapped_at}
 use Rattle.std.proofs.lemmas.List.Elements.{filter_map-append}
 use Rattle.std.specs.Prelude.{List, Option, Some, None, slice_get, slice_set, not, ◌&&◌, if◌then◌else◌}
 use Rattle.ring_words.specs.declared.flag.RingFlag.TheVariants.{CqOverflow}

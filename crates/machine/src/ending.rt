@@ -12,10 +12,10 @@ use entries::{Cqe, Row};
 use overflow::post_all;
 use places::{Place, Recorder};
 use std::alloc::AllocError;
-use timeouts_cancel::{count, fall};
+use timeouts_cancel::{count, fall, falls_alone};
 
 impl Machine {
-    /// Completes the requests in `direct` and their cascade.
+    /// Completes the requests in `direct` and their cascade. Most cascades are empty: no list is made.
     #[tactic(auto, unfolding(crate::specs::Steps::cascaded))]
     pub(crate) fn cascade(
         &mut self,
@@ -30,6 +30,9 @@ impl Machine {
         ensures keeps { Keeps everywhere (view self.old)
             (view self.new) notes.old.made notes.new.made }
     {
+        if falls_alone(&self.table, self.counted, direct) {
+            return self.end_all(direct, notes);
+        }
         let endings = fall(&self.table, self.counted, direct)?;
         self.end_all(&endings, notes)
     }

@@ -1,7 +1,7 @@
 -- The rules of the cascade, one after the other.
-use Rattle.timeouts_cancel.proofs.Common.{◌≡◌, ℕ, sym, ◌∙◌, ap, subst, List, length, ◌+◌, ◌≤◌, arith, Row, Ending, result_in, Direct, joined, with_met, counted_in, fall_of, guarding, severed_endings, result_by}
+use Rattle.timeouts_cancel.proofs.Common.{◌≡◌, ℕ, sym, ◌∙◌, ap, subst, List, [], length, ◌+◌, ◌≤◌, arith, Row, Ending, result_in, Direct, joined, with_met, counted_in, fall_of, guarding, severed_endings, result_by}
 use Rattle.timeouts_cancel.specs.Timers.{met_rows}
-use Rattle.timeouts_cancel.proofs.Listed.{direct_endings, few_endings, joined_listed}
+use Rattle.timeouts_cancel.proofs.Listed.{direct_endings, few_endings, joined_listed, joined_none}
 use Rattle.timeouts_cancel.proofs.Meeting.{met_result}
 use Rattle.timeouts_cancel.proofs.Tallying.{few_counted}
 use Rattle.timeouts_cancel.proofs.Targets.{guard_result}
@@ -40,3 +40,12 @@ cascade_so rows c direct ended guards e g =
     ap (λ xs. joined rows (λ r row. result_in xs r) ended) g
     ∙ joined_listed (guard_result ended) rows ended
     ∙ ap (λ xs. joined rows (guard_result xs) xs) e
+
+-- ---- A cascade that adds nothing
+
+-- Nothing is severed, no count is reached, and no listed request has a linked timeout.
+pub alone : (rows : List Row) (c total : ℕ) (direct : List Ending) → direct ≡ severed_endings rows direct → total ≡ c + counted_in rows direct → met_rows rows total ≡ [] → guarding rows direct ≡ [] → fall_of rows c direct ≡ direct
+alone rows c total direct s t m g = sym (cascade_so rows c direct direct [] (met_so rows c total direct direct [] direct s t (sym m) same) (sym g)) ∙ sym same
+  where
+    same : direct ≡ joined rows (λ r row. result_in [] r) direct
+    same = s ∙ sym (joined_none (result_by rows direct) rows) ∙ ap (joined rows (λ r row. result_in [] r)) (sym s)

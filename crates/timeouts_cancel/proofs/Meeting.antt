@@ -1,5 +1,6 @@
 -- Finding the TIMEOUTs whose count is reached, one by one.
-use Rattle.timeouts_cancel.proofs.Common.{◌≡◌, ℕ, ℤ, pos, true, false, sym, ◌∙◌, List, [], ◌∷◌, ◌++◌, ◌+◌, arith, Option, Some, None, Row, Ending, given, result_of, is_met, upto}
+use Rattle.timeouts_cancel.proofs.Common.{◌≡◌, ℕ, ℤ, pos, true, false, refl, sym, ◌∙◌, List, [], ◌∷◌, ◌++◌, ◌+◌, arith, Option, Some, None, Row, Ending, given, result_of, is_met, upto}
+use Rattle.std.specs.Prelude.{Option, Some, None, is_some, IfNone}
 use Rattle.links_drains.specs.Counts.{IsNextMet, NoneMetFrom}
 use Rattle.timeouts_cancel.specs.Timers.{met_rows}
 use Rattle.timeouts_cancel.proofs.Listed.{upto_all}
@@ -24,3 +25,8 @@ met_next rows total from r es fs h next g =
 
 pub met_all : (rows : List Row) (total from : ℕ) (es : List Ending) → es ≡ upto (met_result total) rows from → NoneMetFrom rows total from → es ≡ met_rows rows total
 met_all rows total from es h none = h ∙ upto_all (met_result total) rows from (λ r row l t. unmet_result total r row (none r row l t))
+
+-- Without a next one, there is none.
+pub met_none : (rows : List Row) (total : ℕ) (next : Option ℕ) → IfNone next (NoneMetFrom rows total 0) → is_some next ≡ false → met_rows rows total ≡ []
+met_none rows total None h n = sym (met_all rows total 0 [] refl h)
+met_none rows total (Some r) h n = absurd cc

@@ -1,14 +1,14 @@
 //! The cascade of a step: the requests that complete as a consequence of others
 //! (io_uring_enter(2)).
-ghost use Rattle.std.specs.Prelude.{◌≡◌, ◌≢◌, ◌&&◌, ◌+◌, ◌^◌, ◌<◌, ◌≤◌, ℕ, IfOk, IfSome, None, Some, length, slice_get};
+ghost use Rattle.std.specs.Prelude.{◌≡◌, ◌≢◌, ◌&&◌, ◌+◌, ◌^◌, ◌<◌, ◌≤◌, ℕ, IfOk, IfSome, None, Some, false, length, slice_get, true};
 ghost use Rattle.links_drains.specs.Links.{is_soft_linked as has_soft_link};
 ghost use Rattle.links_drains.specs.Endings.{Ending, Direct};
 ghost use Rattle.timeouts_cancel.specs.Cascades.{fall_of, first_listed, with_severed, is_bad, GuardsAreLinked};
-ghost use Rattle.timeouts_cancel.specs.Walks.{Walked, Sweeping};
+ghost use Rattle.timeouts_cancel.specs.Walks.{Walked, Sweeping, severed_endings};
 
-use crate::guards::guards;
+use crate::guards::{guards, guards_any};
 use crate::merging::add;
-use crate::timers::{count, met};
+use crate::timers::{count, meets_any, met};
 use entries::{ECANCELED, Row};
 use links_drains::{Table, is_soft_linked, is_unfinished};
 use opcodes::Op;
@@ -35,6 +35,37 @@ pub fn fall(
     let ended = add(table, severed, &met)?;
     let guards = guards(table, &ended)?;
     add(table, ended, &guards)
+}
+
+/// Returns whether a step completes only the requests in `direct`: none of them severs the rest of
+/// its chain or has a linked timeout, and no TIMEOUT's count is then reached. Doesn't allocate.
+pub fn falls_alone(table: &Table, counted: u32, direct: &[(u32, i32)]) -> bool
+    requires direct { Direct table.now direct.now }
+    requires guards { GuardsAreLinked table.now }
+    requires counted { counted ≤ 65536 }
+    ensures { result ≡ true → fall_of table.now counted direct.now ≡ direct.now }
+{
+    prove!(table.len() <= 65536);
+    if severs_any(table, direct) {
+        return false;
+    }
+    let total = counted + count(table, direct);
+    !meets_any(table, total) && !guards_any(table, direct)
+}
+
+// Whether a direct completion severs the rest of its chain.
+fn severs_any(table: &Table, direct: &[(u32, i32)]) -> bool
+    requires direct { Direct table.now direct.now }
+    requires few { length table.now ≤ 65536 }
+    ensures { result ≡ false → direct.now ≡ severed_endings table.now direct.now }
+{
+    for at in 0..direct.len() {
+        let (r, res) = direct[at];
+        if severs(table.row_ref(r), res) {
+            return true;
+        }
+    }
+    false
 }
 
 // The direct completions, and the rest of each chain that they sever. No other request is examined.

@@ -1,5 +1,5 @@
 //! Linked timeouts, which complete with their targets (io_uring_enter(2), IORING_OP_LINK_TIMEOUT).
-ghost use Rattle.std.specs.Prelude.{◌≡◌, ◌<◌, ◌≤◌, ◌+◌, IfOk, false, length, slice_get};
+ghost use Rattle.std.specs.Prelude.{◌≡◌, ◌<◌, ◌≤◌, ◌+◌, [], IfOk, false, length, slice_get};
 ghost use Rattle.std.specs.Option.{option_map_or};
 ghost use Rattle.links_drains.specs.Endings.{Direct};
 ghost use Rattle.timeouts_cancel.specs.Cascades.{GuardsAreLinked};
@@ -25,6 +25,23 @@ pub(crate) fn guards(table: &Table, listed: &[(u32, i32)]) -> Result<Vec<(u32, i
         }
     }
     Ok(guards)
+}
+
+/// Returns whether a listed request has an unfinished linked timeout. Only the request after each
+/// listed one is examined.
+pub(crate) fn guards_any(table: &Table, listed: &[(u32, i32)]) -> bool
+    requires listed { Direct table.now listed.now }
+    requires guards { GuardsAreLinked table.now }
+    requires few { length table.now ≤ 65536 }
+    ensures { result ≡ false → guarding table.now listed.now ≡ [] }
+{
+    for at in 0..listed.len() {
+        let (r, _) = listed[at];
+        if is_guarded(table, r) {
+            return true;
+        }
+    }
+    false
 }
 
 // Whether the request after r is its unfinished linked timeout.

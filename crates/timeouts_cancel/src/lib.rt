@@ -9,6 +9,6 @@ mod matching;
 mod merging;
 mod timers;
 
-pub use cascading::fall;
+pub use cascading::{fall, falls_alone};
 pub use matching::{Found, Key, all_by, count_by, find, find_by};
 pub use timers::{count, due};

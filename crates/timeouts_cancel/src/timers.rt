@@ -1,6 +1,6 @@
 //! Deadlines of timers, and TIMEOUTs that complete after a number of completions
 //! (io_uring_enter(2)).
-ghost use Rattle.std.specs.Prelude.{◌≡◌, ◌-◌, ◌<◌, ◌^◌, IfOk, false, length, slice_get};
+ghost use Rattle.std.specs.Prelude.{◌≡◌, ◌-◌, ◌<◌, ◌^◌, [], IfOk, false, length, slice_get};
 ghost use Rattle.std.specs.Option.{option_map_or};
 ghost use Rattle.links_drains.specs.Phases.{counts};
 ghost use Rattle.timeouts_cancel.specs.Cascades.{counted_in};
@@ -49,6 +49,14 @@ pub(crate) fn met(table: &Table, total: u32) -> Result<Vec<(u32, i32)>, AllocErr
         from = r + 1;
     }
     Ok(met)
+}
+
+/// Returns whether `total` has reached the count of a TIMEOUT.
+pub(crate) fn meets_any(table: &Table, total: u32) -> bool
+    requires { total < 2 ^ 32 - 1 }
+    ensures { result ≡ false → met_rows table.now total ≡ [] }
+{
+    table.next_met(total, 0).is_some()
 }
 
 // Whether the completion of request r counts; false if there is no such request.
