@@ -1,5 +1,5 @@
 -- The state of a debug adapter, and how requests change it.
-use Rattle.std.specs.Prelude.{◌≡◌, ◌⊎◌, ⊤, Bool, true, false, not, Option, Some, None, option_map, Result, MatchResult}
+use Rattle.std.specs.Prelude.{◌≡◌, ◌⊎◌, Bool, true, false, not, Option, Some, None, option_map, Result, MatchResult, OnOk}
 use Rattle.dap_messages.specs.declared.request.Request.{Request}
 use Rattle.dap_messages.specs.declared.request.Request.TheVariants as request
 use Rattle.dap_session.specs.declared.adapter.Phase.{Phase}
@@ -76,4 +76,4 @@ Handles s asked (request.Restart arguments) o s' =
     MatchResult o (λ _. (s.phase ≡ phase.Running) × IsRestarted s s') (λ _. s' ≡ s)
 Handles s asked req o s' =
     (s' ≡ with_run s s'.run) × RunReplies s.run req o s'.run
-    × MatchResult o (λ _. is_open s.phase req ≡ true) (λ _. ⊤)
+    × OnOk o (is_open s.phase req ≡ true)

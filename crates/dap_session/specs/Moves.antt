@@ -1,6 +1,6 @@
 -- Where requests move a run: "Next Request", "StepBack Request", "Continue Request" and others of the
 -- Debug Adapter Protocol's specification.
-use Rattle.std.specs.Prelude.{◌≡◌, ℕ, ◌==◌, ◌||◌, List, Bool, if◌then◌else◌, Option, Some, None, is_some, unwrap_or}
+use Rattle.std.specs.Prelude.{◌≡◌, ℕ, ◌==◌, ◌||◌, List, Bool, true, false, if◌then◌else◌, Option, Some, None, is_some, unwrap_or}
 use Rattle.std.specs.List.{list_any}
 use Rattle.debug_server.specs.Replies.{reply}
 use Rattle.watches.specs.Stops.{forward_stop, reverse_stop}
@@ -14,6 +14,7 @@ use Rattle.stops.specs.declared.steps.EditorThread.{EditorThread}
 use Rattle.stops.specs.declared.steps.EditorThread.TheVariants.{Run}
 use Rattle.dap_messages.specs.declared.request.Context.{Context}
 use Rattle.dap_messages.specs.declared.request.Context.TheVariants as context
+use Rattle.dap_messages.specs.declared.request.ExceptionFilter.{ExceptionFilter}
 use Rattle.dap_messages.specs.declared.request.Granularity.{Granularity}
 use Rattle.dap_messages.specs.declared.request.Granularity.TheVariants as granularity
 use Rattle.dap_messages.specs.declared.request.Request.{Request}
@@ -113,6 +114,10 @@ SetsMarks r r' = r' ≡ record r { marks = r'.marks }
 abbrev pub SetsWatches : RunState → RunState → Type 0
 SetsWatches r r' = r' ≡ record r { watches = r'.watches }
 
+-- The run after a request that sets filters of its findings.
+abbrev pub SetsFindings : RunState → List ExceptionFilter → RunState → Type 0
+SetsFindings r filters r' = SetsMarks r r' × StopsAtFindings (walk_of r) filters r'.marks.findings
+
 -- The run after a request that succeeds. A request that only looks changes nothing.
 abbrev pub Moves : RunState → Request → RunState → Type 0
 Moves r (request.Next a) r' = r' ≡ gone_to r (next_moment r a)
@@ -126,7 +131,6 @@ Moves r (request.Evaluate a) r' = Evaluates r a.context a.expression r'
 Moves r (request.SetBreakpoints a) r' = SetsMarks r r'
 Moves r (request.SetFunctionBreakpoints a) r' = SetsMarks r r'
 Moves r (request.SetInstructionBreakpoints a) r' = SetsMarks r r'
-Moves r (request.SetExceptionBreakpoints a) r' =
-    SetsMarks r r' × StopsAtFindings (walk_of r) a r'.marks.findings
+Moves r (request.SetExceptionBreakpoints a) r' = SetsFindings r a r'
 Moves r (request.SetDataBreakpoints a) r' = SetsWatches r r'
 Moves r _ r' = r' ≡ r

@@ -403,7 +403,7 @@ impl Adapter {
     fn reply(&mut self, request: Request) -> Result<Reply, Refusal>
         ensures rest { self.new ≡ with_run self.old self.new.run }
         ensures run { RunReplies self.old.run request (outcome_of result) self.new.run }
-        ensures admitted { OnOk result (is_open self.old.phase request ≡ true) }
+        ensures admitted { OnOk (outcome_of result) (is_open self.old.phase request ≡ true) }
     {
         match self.may_reply(&request) {
             Ok(()) => reply_of(&mut self.debuggee, request),

@@ -1,7 +1,7 @@
 //! The requests that set breakpoints.
 ghost use Rattle.std.specs.Prelude.{◌≡◌, IfOk, OnErr, OnOk, filter, map};
-ghost use Rattle.dap_session.specs.Runs.{walk_of};
-ghost use Rattle.dap_session.specs.Searches.{StopsAtFindings, finding_moments, moment_in, stops_at};
+ghost use Rattle.dap_session.specs.Moves.{SetsFindings};
+ghost use Rattle.dap_session.specs.Searches.{finding_moments, moment_in, stops_at};
 
 use crate::answer::Reply;
 use crate::breakpoints::{Lines, moment_of, moments_of, name_of};
@@ -337,8 +337,7 @@ impl Debuggee {
         wanted: Items<ExceptionFilter>,
     ) -> Result<Reply, Refusal>
         ensures kept { self.new ≡ record self.old { marks = self.new.marks } }
-        ensures stops { OnOk result
-            (StopsAtFindings (walk_of self.old) wanted self.new.marks.findings) }
+        ensures stops { OnOk result (SetsFindings self.old wanted self.new) }
         ensures err { OnErr result (self.new ≡ self.old) }
     {
         if wanted.is_empty() {
