@@ -39,9 +39,10 @@ pub use Rattle.machine.specs.declared.whole.Machine.{Machine}
 pub use Rattle.model_files.specs.Worlds.{WorldState, PutsWithin, OneSetup, world_seen, world_owns, descriptor_of, world_closed, ContentsFit, body_start, pipe_in, world_start, WorldFormed, descriptor_at, world_stored}
 pub use Rattle.opcodes.proofs.Counting.{puts_more, puts_after}
 pub use Rattle.opcodes.proofs.Staying.{stays_after}
-pub use Rattle.opcodes.specs.Effects.{world_after}
+pub use Rattle.opcodes.specs.Effects.{Decides, Does, world_after}
 pub use Rattle.opcodes.specs.Opcodes.{is_cancel, is_timer, uses_descriptor}
 pub use Rattle.opcodes.specs.Outcomes.{outcome_of, is_running}
+pub use Rattle.opcodes.specs.declared.effect.Effect.{Effect}
 pub use Rattle.opcodes.specs.declared.ending.Outcome.{Outcome}
 pub use Rattle.opcodes.specs.declared.ending.Outcome.TheVariants.{Res, Waits, BadChoice}
 pub use Rattle.overflow.specs.Backlogs.{is_clear, Delivery, all_posted, BacklogState, backlog_seen, backlog_owns, BacklogFormed}

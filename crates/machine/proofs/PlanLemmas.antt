@@ -1,5 +1,5 @@
 -- Plans of events.
-use Rattle.machine.proofs.Common.{◌≡◌, ◌∙◌, ℕ, ℤ, false, sym, ap, cond, arith, Some, slice_get, option_map_or, Choice, Issued, Row, is_held_by, is_ended, is_cancel, is_timer, outcome_of, Outcome, Res, CanDo, IsOpen, planned, after, cancelled, choice_refusal, finished, finished_as, full_refusal, outcome_refusal, refusal, Complete, Machine, Finish}
+use Rattle.machine.proofs.Common.{◌≡◌, ◌∙◌, ℕ, ℤ, false, sym, ap, cond, arith, Some, slice_get, option_map_or, Choice, Issued, Row, is_held_by, is_ended, is_cancel, is_timer, outcome_of, Outcome, Res, Effect, Does, CanDo, IsOpen, planned, after, cancelled, choice_refusal, finished, finished_as, full_refusal, outcome_refusal, refusal, Complete, Machine, Finish}
 
 -- The refusal of a Finish of an issued request that is no timer.
 pub finish_of_issued : (m : Machine) (r : ℕ) (c : Choice) (row : Row) → slice_get m.table r ≡ Some row → is_timer row.entry.opcode ≡ false → row.phase ≡ Issued → refusal m (Finish r c) ≡ choice_refusal (is_held_by m.table) m.world row c
@@ -11,9 +11,9 @@ finish_of_other m r c row o there timer issued cancels h = finish_of_issued m r 
 abbrev is_open : (m : Machine) (r : ℕ) (row : Row) → slice_get m.table r ≡ Some row → row.phase ≡ Issued → IsOpen m r
 is_open m r row there issued = record { row = row; there = there; unfinished = ap is_ended issued }
 
-pub complete_planned : (m : Machine) (r : ℕ) (c : Choice) (row : Row) (res : ℤ) → slice_get m.table r ≡ Some row → row.phase ≡ Issued → is_cancel row.entry.opcode ≡ false → outcome_of (is_held_by m.table) m.world row c ≡ Res res → CanDo m (Complete r res) × (planned m (Complete r res) ≡ after m (Finish r c))
-complete_planned m r c row res there issued cancels h = (
-  (is_open m r row there issued, c, h),
+pub complete_planned : (m : Machine) (r : ℕ) (c : Choice) (row : Row) (res : ℤ) (effect : Effect) → slice_get m.table r ≡ Some row → row.phase ≡ Issued → is_cancel row.entry.opcode ≡ false → outcome_of (is_held_by m.table) m.world row c ≡ Res res → Does m.world row res effect → CanDo m (Complete r res effect) × (planned m (Complete r res effect) ≡ after m (Finish r c))
+complete_planned m r c row res effect there issued cancels h does = (
+  (is_open m r row there issued, c, h, does),
   ap (λ o. option_map_or (λ (x : Row). finished_as m r x (Res res)) o m) there
       ∙ sym (ap (finished_as m r row) h)
       ∙ sym (ap (λ b. cond b (cancelled m r row.entry) (finished_as m r row (outcome_of (is_held_by m.table) m.world row c))) cancels)

@@ -1,29 +1,34 @@
 -- What an event does, once it is decided.
-use Rattle.std.specs.Prelude.{◌≡◌, ℕ, ◌+◌, true, false, is_some, None, Some, slice_get}
+use Rattle.std.specs.Prelude.{◌≡◌, ℕ, pos, ◌+◌, true, false, is_some, None, Some, slice_get}
 use Rattle.std.specs.Option.{option_map_or}
 use Rattle.entries.specs.declared.row.Row.{Row}
 use Rattle.entries.specs.declared.choice.Choice.{Choice}
 use Rattle.links_drains.specs.Holding.{is_held_by}
 use Rattle.links_drains.specs.Phases.{is_ended}
+use Rattle.opcodes.specs.Effects.{Does}
 use Rattle.opcodes.specs.Outcomes.{outcome_of}
 use Rattle.opcodes.specs.declared.ending.Outcome.TheVariants.{Res}
+use Rattle.places.specs.declared.value.Stage.{Stage}
+use Rattle.places.specs.declared.value.Stage.TheVariants.{Ready, Waiting}
 use Rattle.sqpoll.specs.declared.poller.Poller.TheVariants.{Asleep}
-use Rattle.machine.specs.Steps.{after, cancelled, expired, finished_as, issued, refusal, stepped, submission_refusal, submitted, with_poller}
+use Rattle.machine.specs.Steps.{after, answered, cancelled, executed, expired, finished_as, issued, next_of, refusal, submission_refusal, submitted, with_poller}
+use Rattle.machine.specs.Threads.{ThreadState}
 use Rattle.machine.specs.declared.planning.Plan.{Plan}
-use Rattle.machine.specs.declared.planning.Plan.TheVariants.{Resume, Submit, Rest, Start, Cancel, Complete, TimeOut, Advance}
+use Rattle.machine.specs.declared.planning.Plan.TheVariants.{Execute, Return, Submit, Rest, Start, Cancel, Complete, TimeOut, Advance}
 use Rattle.machine.specs.declared.whole.Machine.{Machine}
 use Rattle.scenario.specs.declared.event.Event.{Event}
 use Rattle.scenario.specs.declared.event.Event.TheVariants.{Step, Issue, Expire, Tick}
 
 -- The machine after a plan was carried out.
 abbrev pub planned : Machine → Plan → Machine
-planned m (Resume t) = stepped m t (slice_get m.threads t)
+planned m (Execute t) = executed m t (next_of (slice_get m.threads t))
+planned m (Return t n) = answered m t (pos n)
 planned m (Submit n) = submitted m n
 planned m Rest = with_poller m Asleep
 planned m (Start r) = issued m r (slice_get m.table r)
 planned m (Cancel r) =
     option_map_or (λ (row : Row). cancelled m r row.entry) (slice_get m.table r) m
-planned m (Complete r res) =
+planned m (Complete r res effect) =
     option_map_or (λ (row : Row). finished_as m r row (Res res)) (slice_get m.table r) m
 planned m (TimeOut r) = expired m r (slice_get m.table r)
 planned m (Advance d) = record m { clock = m.clock + d }
@@ -34,15 +39,25 @@ pub record IsOpen (m : Machine) (r : ℕ) : Type 0 where
   pub there : slice_get m.table r ≡ Some row
   pub unfinished : is_ended row.phase ≡ false
 
--- What a plan requires of the machine. A completion's result is an outcome of the request.
+-- Thread t, in this stage, can step.
+pub record IsNext (m : Machine) (t : ℕ) (stage : Stage) : Type 0 where
+  pub accepted : refusal m (Step t) ≡ None
+  pub thread : ThreadState
+  pub there : slice_get m.threads t ≡ Some thread
+  pub in_stage : thread.stage ≡ stage
+
+-- What a plan requires of the machine. A completion's result is an outcome of the request, and its
+-- effect is what the request does.
 abbrev pub CanDo : Machine → Plan → Type 0
-CanDo m (Resume t) = refusal m (Step t) ≡ None
+CanDo m (Execute t) = IsNext m t Ready
+CanDo m (Return t n) = (w : ℕ) × IsNext m t (Waiting n w)
 CanDo m (Submit n) = submission_refusal m n ≡ None
 CanDo m Rest = is_some m.poller ≡ true
 CanDo m (Start r) = refusal m (Issue r) ≡ None
 CanDo m (Cancel r) = IsOpen m r
-CanDo m (Complete r res) =
+CanDo m (Complete r res effect) =
     (o : IsOpen m r) × (c : Choice) × (outcome_of (is_held_by m.table) m.world o.row c ≡ Res res)
+    × Does m.world o.row res effect
 CanDo m (TimeOut r) = refusal m (Expire r) ≡ None
 CanDo m (Advance d) = refusal m (Tick d) ≡ None
 

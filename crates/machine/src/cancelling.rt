@@ -32,8 +32,7 @@ impl Machine {
         ensures keeps { Keeps everywhere (view self.old)
             (view self.new) notes.old.made notes.new.made }
     {
-        let entry = self.table.row(r).entry;
-        let verdict = self.verdict(r, &entry)?;
+        let verdict = self.verdict(r, &self.table.row_ref(r).entry)?;
         let direct = ending_with(self.table.allocator(), r, &verdict)?;
         self.cascade(&direct, notes)
     }

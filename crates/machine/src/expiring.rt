@@ -42,9 +42,10 @@ impl Machine {
     fn waits(&self, r: u32) -> bool
         ensures { result ≡ waits_at self.now.table self.now.world r }
     {
-        match self.table.get(r) {
-            Some(row) => is_issued(&row) && !is_running(&self.world, &row),
-            None => false,
+        if r as usize >= self.table.len() {
+            return false;
         }
+        let row = self.table.row_ref(r);
+        is_issued(row) && !is_running(&self.world, row)
     }
 }

@@ -3,6 +3,7 @@ ghost use Rattle.std.specs.Prelude.{◌≡◌, ◌+◌, ◌<◌, OnOk, None, Som
 ghost use Rattle.std.specs.Option.{option_map_or};
 ghost use Rattle.places.specs.Lists.{updated};
 ghost use Rattle.links_drains.specs.Holding.{is_held_by};
+ghost use Rattle.opcodes.specs.Effects.{Decides};
 ghost use Rattle.opcodes.specs.Outcomes.{outcome_of};
 ghost use Rattle.places.specs.View.{Keeps, named};
 ghost use Rattle.places.specs.declared.place.Place.{Place};
@@ -16,7 +17,9 @@ use crate::whole::Machine;
 use entries::{EBADF, IORING_TIMEOUT_ABS, Phase, Row};
 use links_drains::is_guard;
 use model_files::{DescriptorState, World};
-use opcodes::{Choice, Op, Outcome, carry_out, fits_end, outcome, uses_descriptor};
+use opcodes::{
+    Choice, Effect, Op, Outcome, carry_out, fits_end, outcome_and_effect, uses_descriptor,
+};
 use places::Recorder;
 use std::alloc::AllocError;
 
@@ -78,25 +81,29 @@ impl Machine {
         &mut self,
         r: u32,
         res: i32,
+        effect: Effect,
         notes: &mut Recorder,
     ) -> Result<(), AllocError>
-        requires can { CanDo self.old (Complete r res) }
+        requires can { CanDo self.old (Complete r res effect) }
         requires formed { WellFormed self.old }
         requires fresh { (p : Place) → named notes.old.made p ≡ None }
-        ensures ok { OnOk result (self.new ≡ planned self.old (Complete r res)) }
+        ensures ok { OnOk result (self.new ≡ planned self.old (Complete r res effect)) }
         ensures grows { Grows self.old self.new }
         ensures keeps { Keeps everywhere (view self.old)
             (view self.new) notes.old.made notes.new.made }
     {
-        carry_out(&mut self.world, self.table.row_ref(r), res, notes)?;
+        carry_out(&mut self.world, effect, notes)?;
         self.cascade(&[(r, res)], notes)
     }
 
-    /// Returns the outcome of an issued request for a choice.
-    pub(crate) fn outcome(&self, row: &Row, choice: Choice) -> Outcome
-        ensures { result ≡ outcome_of (is_held_by self.now.table) self.now.world row.now choice }
+    /// Returns the outcome of an issued request for a choice, and what the request does if it
+    /// completes so.
+    pub(crate) fn decide(&self, row: &Row, choice: Choice) -> (Outcome, Effect)
+        ensures outcome { result.0
+            ≡ outcome_of (is_held_by self.now.table) self.now.world row.now choice }
+        ensures effect { Decides self.now.world row.now result.0 result.1 }
     {
-        outcome(&self.world, self.table.held(), row, choice)
+        outcome_and_effect(&self.world, self.table.held(), row, choice)
     }
 }
 

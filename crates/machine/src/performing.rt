@@ -5,11 +5,12 @@ ghost use Rattle.places.specs.declared.place.Place.{Place};
 ghost use Rattle.machine.specs.Steps.{after, refusal, submission_refusal, submitted};
 ghost use Rattle.machine.specs.Plans.{CanDo, planned};
 ghost use Rattle.machine.specs.Whole.{view, everywhere, Grows, WellFormed};
-ghost use Rattle.scenario.specs.declared.event.Event.TheVariants.{Tick, Step};
+ghost use Rattle.machine.specs.declared.planning.Plan.TheVariants.{Execute};
+ghost use Rattle.scenario.specs.declared.event.Event.TheVariants.{Tick};
 
 use crate::planning::Plan;
 use crate::whole::Machine;
-use places::{Place, Recorder, Stage};
+use places::{Place, Recorder};
 use scenario::Instruction;
 use sqpoll::Poller;
 use std::alloc::AllocError;
@@ -27,12 +28,13 @@ impl Machine {
             (view self.new) notes.old.made notes.new.made }
     {
         match plan {
-            Plan::Resume(t) => self.step_thread(t, notes),
+            Plan::Execute(t) => self.execute(t, notes),
+            Plan::Return(t, n) => self.threads.answer(t, i64::from(n), notes),
             Plan::Submit(n) => self.submit_for_poller(n, notes),
             Plan::Rest => self.set_poller(Poller::Asleep, notes),
             Plan::Start(r) => self.issue(r, notes),
             Plan::Cancel(r) => self.cancel(r, notes),
-            Plan::Complete(r, res) => self.complete(r, res, notes),
+            Plan::Complete(r, res, effect) => self.complete(r, res, effect, notes),
             Plan::TimeOut(r) => self.expire(r, notes),
             Plan::Advance(d) => self.tick(d, notes),
         }
@@ -64,26 +66,17 @@ impl Machine {
         Ok(())
     }
 
-    // Carries out a thread's next instruction, or returns from the system call in which it waits.
-    fn step_thread(&mut self, t: u32, notes: &mut Recorder) -> Result<(), AllocError>
-        requires accepted { refusal self.old (Step t) ≡ None }
+    // Carries out a thread's next instruction.
+    fn execute(&mut self, t: u32, notes: &mut Recorder) -> Result<(), AllocError>
+        requires can { CanDo self.old (Execute t) }
         requires formed { WellFormed self.old }
         requires fresh { (p : Place) → named notes.old.made p ≡ None }
-        ensures ok { OnOk result (self.new ≡ after self.old (Step t)) }
+        ensures ok { OnOk result (self.new ≡ planned self.old (Execute t)) }
         ensures grows { Grows self.old self.new }
         ensures keeps { Keeps everywhere (view self.old)
             (view self.new) notes.old.made notes.new.made }
     {
-        let Some(thread) = self.threads.get(t) else {
-            return Ok(());
-        };
-        if let Stage::Waiting(n, _) = thread.stage() {
-            return self.threads.answer(t, i64::from(n), notes);
-        }
-        let Some(instruction) = thread.next() else {
-            return Ok(());
-        };
-        match instruction {
+        match self.threads.instruction(t) {
             Instruction::Put(slot, entry) => {
                 let (slot, entry) = (*slot, *entry);
                 self.put_entry(t, slot, entry, notes)

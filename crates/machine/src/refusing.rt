@@ -4,13 +4,14 @@ ghost use Rattle.ring_words.specs.Rings.{sub_list};
 ghost use Rattle.machine.specs.Steps.{refusal, next_refusal, instruction_refusal, enter_refusal, alone_refusal, submission_refusal, take_refusal, sleep_refusal, issue_refusal, expire_refusal, full_refusal, is_busy, flushed};
 ghost use Rattle.machine.specs.Submission.{offered};
 ghost use Rattle.machine.specs.Whole.{WellFormed};
-ghost use Rattle.scenario.specs.declared.event.Event.TheVariants.{Step, Tick};
+ghost use Rattle.places.specs.declared.value.Stage.TheVariants.{Waiting};
+ghost use Rattle.scenario.specs.declared.setup.Instruction.{Instruction};
+ghost use Rattle.scenario.specs.declared.event.Event.TheVariants.{Tick};
 
 use crate::whole::Machine;
 use entries::{Phase, Row};
 use links_drains::is_issued;
 use opcodes::{Choice, is_timer};
-use places::Stage;
 use scenario::{Event, Instruction, Refusal};
 use sqpoll::Poller;
 use timeouts_cancel::due;
@@ -24,19 +25,6 @@ impl Machine {
         self.plan(event).err()
     }
 
-    pub(crate) fn refuses_step(&self, t: u32) -> Option<Refusal>
-        requires formed { WellFormed self.now }
-        ensures { result ≡ refusal self.now (Step t) }
-    {
-        let Some(thread) = self.threads.get(t) else {
-            return Some(Refusal::NoSuchThread);
-        };
-        match thread.next() {
-            None => Some(Refusal::ThreadDone),
-            Some(instruction) => self.refuses_next(thread.stage(), instruction),
-        }
-    }
-
     pub(crate) fn refuses_tick(&self, d: u64) -> Option<Refusal>
         ensures { result ≡ refusal self.now (Tick d) }
     {
@@ -47,19 +35,15 @@ impl Machine {
         }
     }
 
-    fn refuses_next(&self, stage: Stage, instruction: &Instruction) -> Option<Refusal>
-        requires formed { WellFormed self.now }
-        ensures { result ≡ next_refusal self.now stage (Some instruction.now) }
+    // A thread that waits for completions continues when this many are in the ring.
+    pub(crate) fn refuses_wait(&self, needed: u32) -> Option<Refusal>
+        ensures { (n : ℕ) (i : Instruction) → result
+            ≡ next_refusal self.now (Waiting n needed) (Some i) }
     {
-        match stage {
-            Stage::Ready => self.refuses_instruction(instruction),
-            Stage::Waiting(_, needed) => {
-                if self.completions.waiting() < needed {
-                    Some(Refusal::StillWaiting)
-                } else {
-                    None
-                }
-            }
+        if self.completions.waiting() < needed {
+            Some(Refusal::StillWaiting)
+        } else {
+            None
         }
     }
 
@@ -89,7 +73,7 @@ impl Machine {
         }
     }
 
-    fn refuses_instruction(&self, instruction: &Instruction) -> Option<Refusal>
+    pub(crate) fn refuses_instruction(&self, instruction: &Instruction) -> Option<Refusal>
         requires formed { WellFormed self.now }
         ensures { result ≡ instruction_refusal self.now instruction.now }
     {
@@ -188,10 +172,10 @@ impl Machine {
     pub(crate) fn refuses_expire(&self, r: u32) -> Option<Refusal>
         ensures { result ≡ expire_refusal self.now.clock (slice_get self.now.table r) }
     {
-        match self.table.get(r) {
-            Some(row) => refuses_expiry(self.clock, &row),
-            None => Some(Refusal::NoSuchRequest),
+        if r as usize >= self.table.len() {
+            return Some(Refusal::NoSuchRequest);
         }
+        refuses_expiry(self.clock, self.table.row_ref(r))
     }
 }
 

@@ -1,5 +1,5 @@
 //! The threads of the program: their code, and how far they have run.
-ghost use Rattle.std.specs.Prelude.{◌≡◌, ◌<◌, ◌+◌, ◌^◌, IfOk, OnOk, Some, None, length, slice_get, map};
+ghost use Rattle.std.specs.Prelude.{◌≡◌, ◌<◌, ◌+◌, ◌^◌, IfOk, OnOk, Some, None, IsSome, length, slice_get, map};
 ghost use Rattle.std.specs.Option.{option_copied};
 ghost use Rattle.places.specs.Lists.{updated};
 ghost use Rattle.places.specs.View.{Keeps, put_at};
@@ -175,6 +175,7 @@ impl Part for Threads {
 }
 
 impl Threads {
+    ghost use Rattle.machine.specs.Steps.{next_of};
     ghost use Rattle.machine.specs.Threads.{ThreadState, program_of, threads_owns, threads_seen, threads_can_put};
     ghost use Rattle.places.specs.declared.place.Place.TheVariants.{ProgramCounter};
     ghost use Rattle.places.specs.declared.value.Value.TheVariants.{Number};
@@ -213,6 +214,15 @@ impl Threads {
         ensures { option_copied result ≡ slice_get self.now t }
     {
         self.threads.get(t as usize)
+    }
+
+    /// Returns the next instruction of a thread that has one.
+    pub(crate) fn instruction(&self, t: u32) -> &Instruction
+        requires { IsSome (next_of (slice_get self.now t)) }
+        ensures { next_of (slice_get self.now t) ≡ Some result.now }
+    {
+        let thread = &self.threads[t as usize];
+        &thread.program.as_slice()[thread.counter as usize]
     }
 
     /// Advances a thread to its next instruction.

@@ -65,6 +65,13 @@ fixed res Full = Res res
 fixed res (Short n) = BadChoice
 fixed res Eio = BadChoice
 
+-- The number in a result that is no error.
+abbrev pub count_in : Outcome → Option ℕ
+count_in (Res (pos n)) = Some n
+count_in (Res (negsuc n)) = None
+count_in Waits = None
+count_in BadChoice = None
+
 -- The result of a transfer of at most k bytes: k, or fewer but at least 1, or -EIO if the device
 -- fails.
 abbrev pub transferred : ℕ → Choice → Outcome

@@ -1,4 +1,6 @@
 //! Possible outcomes of a request.
+ghost use Rattle.std.specs.Prelude.{◌≡◌};
+ghost use Rattle.opcodes.specs.Outcomes.{count_in};
 
 /// The outcome of an issued request for one choice of the kernel.
 #[derive(Clone, Copy)]
@@ -10,4 +12,16 @@ pub enum Outcome {
     Waits,
     /// The kernel can't make this choice for the request.
     BadChoice,
+}
+
+impl Outcome {
+    /// Returns the result, if it is no error.
+    pub fn count(self) -> Option<u32>
+        ensures { result ≡ count_in self }
+    {
+        match self {
+            Outcome::Res(res) if res >= 0 => Some(res as u32),
+            _ => None,
+        }
+    }
 }

@@ -10,9 +10,9 @@ pub mod running;
 mod streams;
 
 pub use checks::{Context, check, time_of};
-pub use effect::carry_out;
+pub use effect::{Effect, Transfer, carry_out};
 pub use ending::Outcome;
 pub use entries::Choice;
 pub use op::{Op, fits_end, is_cancel, is_timer, uses_descriptor};
-pub use results::outcome;
+pub use results::{outcome, outcome_and_effect};
 pub use running::is_running;

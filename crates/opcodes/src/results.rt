@@ -1,10 +1,16 @@
 //! The results of issued requests (read(2), write(2), fsync(2), poll(2)).
-ghost use Rattle.std.specs.Prelude.{◌≡◌, ◌+◌, ◌<◌, ◌≤◌, IfSome, false};
+ghost use Rattle.std.specs.Prelude.{◌≡◌, ◌+◌, ◌<◌, ◌≤◌, ℕ, pos, negsuc, IfSome, IsSome, Some, false};
 ghost use Rattle.model_files.specs.Ends.{mask_of_descriptor};
 ghost use Rattle.model_files.specs.Holders.{is_held};
-ghost use Rattle.model_files.specs.Worlds.{StockFits, number_at};
-ghost use Rattle.opcodes.specs.Outcomes.{outcome_of, held_descriptor, stock_at, position_of, has_writer_at, has_reader_at, fixed, transferred, passes_memory, is_at_position, is_bad_offset, offset_of, file_synced, file_read, file_written, fsync_outcome, poll_outcome, read_outcome, write_outcome};
+ghost use Rattle.model_files.specs.Worlds.{StockFits, WorldFormed, WorldState, descriptor_of, file_of, number_at};
+ghost use Rattle.opcodes.specs.Check.{op_of};
+ghost use Rattle.opcodes.specs.Effects.{bytes_read, bytes_written, effected, CanMove, Decides};
+ghost use Rattle.opcodes.specs.Outcomes.{outcome_of, held_descriptor, stock_at, position_of, has_writer_at, has_reader_at, fixed, transferred, passes_memory, is_at_position, is_bad_offset, offset_of, event_written, file_synced, file_read, file_written, fsync_outcome, poll_outcome, read_outcome, write_outcome};
+ghost use Rattle.opcodes.specs.declared.effect.Effect.TheVariants.{AddEvent, Nothing, ReadFile, WriteFile};
+ghost use Rattle.opcodes.specs.declared.ending.Outcome.TheVariants.{Res};
+ghost use Rattle.opcodes.specs.declared.op.Op.TheVariants.{Fsync, Read, Write};
 
+use crate::effect::{Effect, Transfer};
 use crate::ending::Outcome;
 use crate::op::Op;
 use crate::streams::{event_read, event_written, pipe_read, pipe_written};
@@ -16,24 +22,33 @@ use model_files::{DescriptorState, Held, Stock, World};
 pub fn outcome(world: &World, held: &Held, row: &Row, choice: Choice) -> Outcome
     ensures { result ≡ outcome_of (is_held held.now) world.now row.now choice }
 {
+    outcome_and_effect(world, held, row, choice).0
+}
+
+/// Returns the outcome as `outcome` does, and what the request does if it completes so.
+pub fn outcome_and_effect(
+    world: &World,
+    held: &Held,
+    row: &Row,
+    choice: Choice,
+) -> (Outcome, Effect)
+    ensures outcome { result.0 ≡ outcome_of (is_held held.now) world.now row.now choice }
+    ensures effect { Decides world.now row.now result.0 result.1 }
+{
     let (entry, descriptor) = (&row.entry, held_descriptor(world, row));
     match Op::from_opcode(entry.opcode) {
-        Some(Op::Nop) => fixed(0, choice),
-        Some(Op::Fsync) => fsync_outcome(stock_at(world, descriptor), choice),
-        Some(Op::PollAdd) => poll_outcome(entry, mask_of_descriptor(world, held, row), choice),
-        Some(Op::Read) => {
-            if passes_memory(entry) {
-                return fixed(-EFAULT, choice);
-            }
-            read_outcome(world, held, entry, descriptor, choice)
+        Some(Op::Nop) => (fixed(0, choice), Effect::Nothing),
+        Some(Op::Fsync) => sync(world, row, descriptor, choice),
+        Some(Op::PollAdd) => {
+            let mask = mask_of_descriptor(world, held, row);
+            (poll_outcome(entry, mask, choice), Effect::Nothing)
         }
-        Some(Op::Write) => {
-            if passes_memory(entry) {
-                return fixed(-EFAULT, choice);
-            }
-            write_outcome(world, held, entry, descriptor, choice)
+        Some(Op::Read | Op::Write) if passes_memory(entry) => {
+            (fixed(-EFAULT, choice), Effect::Nothing)
         }
-        _ => Outcome::BadChoice,
+        Some(Op::Read) => read(world, held, row, descriptor, choice),
+        Some(Op::Write) => write(world, held, row, descriptor, choice),
+        _ => (Outcome::BadChoice, Effect::Nothing),
     }
 }
 
@@ -77,24 +92,6 @@ pub(crate) fn stock_at(world: &World, descriptor: Option<DescriptorState>) -> Op
     match descriptor {
         Some(descriptor) => world.stock(descriptor.object),
         None => None,
-    }
-}
-
-fn has_writer_at(world: &World, held: &Held, descriptor: Option<DescriptorState>) -> bool
-    ensures { result ≡ has_writer_at (is_held held.now) world.now descriptor }
-{
-    match descriptor {
-        Some(descriptor) => world.has_writer(descriptor.object, held),
-        None => false,
-    }
-}
-
-fn has_reader_at(world: &World, held: &Held, descriptor: Option<DescriptorState>) -> bool
-    ensures { result ≡ has_reader_at (is_held held.now) world.now descriptor }
-{
-    match descriptor {
-        Some(descriptor) => world.has_reader(descriptor.object, held),
-        None => false,
     }
 }
 
@@ -152,13 +149,31 @@ pub(crate) fn offset_of(entry: &Sqe, position: u64) -> u64
     }
 }
 
-fn fsync_outcome(stock: Option<Stock>, choice: Choice) -> Outcome
-    ensures { result ≡ fsync_outcome stock choice }
+// An FSYNC.
+fn sync(
+    world: &World,
+    row: &Row,
+    descriptor: Option<DescriptorState>,
+    choice: Choice,
+) -> (Outcome, Effect)
+    requires op { op_of row.now.entry.opcode ≡ Some Fsync }
+    requires held { descriptor ≡ held_descriptor world.now row.now }
+    ensures outcome { result.0 ≡ fsync_outcome (stock_at world.now descriptor) choice }
+    ensures effect { Decides world.now row.now result.0 result.1 }
 {
-    match stock {
-        Some(Stock::File(_)) => file_synced(choice),
-        Some(_) => fixed(-EINVAL, choice),
-        None => Outcome::BadChoice,
+    let Some(descriptor) = descriptor else {
+        return (Outcome::BadChoice, Effect::Nothing);
+    };
+    match world.stock(descriptor.object) {
+        Some(Stock::File(_)) => {
+            let outcome = file_synced(choice);
+            match outcome.count() {
+                Some(_) => (outcome, Effect::SyncFile(descriptor.object)),
+                None => (outcome, Effect::Nothing),
+            }
+        }
+        Some(_) => (fixed(-EINVAL, choice), Effect::Nothing),
+        None => (Outcome::BadChoice, Effect::Nothing),
     }
 }
 
@@ -184,56 +199,144 @@ fn poll_outcome(entry: &Sqe, mask: u32, choice: Choice) -> Outcome
     fixed(ready as i32, choice)
 }
 
-fn read_outcome(
+// A READ whose buffer is within the memory.
+fn read(
     world: &World,
     held: &Held,
-    entry: &Sqe,
+    row: &Row,
     descriptor: Option<DescriptorState>,
     choice: Choice,
-) -> Outcome
-    requires { entry.now.len ≤ 65536 }
-    ensures { result ≡ read_outcome entry.now (position_of descriptor)
+) -> (Outcome, Effect)
+    requires op { op_of row.now.entry.opcode ≡ Some Read }
+    requires within { row.now.entry.addr + row.now.entry.len ≤ 65536 }
+    requires held { descriptor ≡ held_descriptor world.now row.now }
+    ensures outcome { result.0 ≡ read_outcome row.now.entry (position_of descriptor)
         (has_writer_at (is_held held.now) world.now descriptor)
         (stock_at world.now descriptor) choice }
+    ensures effect { Decides world.now row.now result.0 result.1 }
 {
-    let len = entry.len;
-    match stock_at(world, descriptor) {
-        Some(Stock::File(size)) => file_read(entry, position_of(descriptor), size, choice),
-        Some(Stock::Pipe(filled, _)) => pipe_read(
-            len,
-            has_writer_at(world, held, descriptor),
-            filled,
-            choice,
-        ),
-        Some(Stock::EventFd(counter)) => event_read(len, counter, choice),
-        None => Outcome::BadChoice,
+    let entry = &row.entry;
+    let (Some(fd), Some(descriptor)) = (row.held, descriptor) else {
+        return (Outcome::BadChoice, Effect::Nothing);
+    };
+    let (object, address) = (descriptor.object, entry.addr as u32);
+    match world.stock(object) {
+        Some(Stock::File(size)) => {
+            let outcome = file_read(entry, position_of(Some(descriptor)), size, choice);
+            match outcome.count() {
+                Some(0) | None => (outcome, Effect::Nothing),
+                Some(n) => (
+                    outcome,
+                    Effect::ReadFile(transfer(entry, fd, &descriptor, n)),
+                ),
+            }
+        }
+        Some(Stock::Pipe(filled, _)) => {
+            let outcome = pipe_read(entry.len, world.has_writer(object, held), filled, choice);
+            match outcome.count() {
+                Some(0) | None => (outcome, Effect::Nothing),
+                Some(n) => (outcome, Effect::TakePipe(object, n, address)),
+            }
+        }
+        Some(Stock::EventFd(counter)) => {
+            let outcome = event_read(entry.len, counter, choice);
+            match outcome.count() {
+                Some(_) => (outcome, Effect::ClearEvent(object, address)),
+                None => (outcome, Effect::Nothing),
+            }
+        }
+        None => (Outcome::BadChoice, Effect::Nothing),
     }
 }
 
-fn write_outcome(
+// A WRITE whose buffer is within the memory.
+fn write(
     world: &World,
     held: &Held,
-    entry: &Sqe,
+    row: &Row,
     descriptor: Option<DescriptorState>,
     choice: Choice,
-) -> Outcome
-    requires within { entry.now.addr + entry.now.len ≤ 65536 }
-    ensures { result ≡ write_outcome entry.now (position_of descriptor)
-        (has_reader_at (is_held held.now) world.now descriptor) (number_at world.now entry.now.addr)
+) -> (Outcome, Effect)
+    requires op { op_of row.now.entry.opcode ≡ Some Write }
+    requires within { row.now.entry.addr + row.now.entry.len ≤ 65536 }
+    requires held { descriptor ≡ held_descriptor world.now row.now }
+    ensures outcome { result.0 ≡ write_outcome row.now.entry (position_of descriptor)
+        (has_reader_at (is_held held.now) world.now descriptor)
+        (number_at world.now row.now.entry.addr)
         (stock_at world.now descriptor) choice }
+    ensures effect { Decides world.now row.now result.0 result.1 }
 {
-    let len = entry.len;
-    match stock_at(world, descriptor) {
-        Some(Stock::File(_)) => file_written(entry, position_of(descriptor), choice),
-        Some(Stock::Pipe(filled, capacity)) => pipe_written(
-            len,
-            has_reader_at(world, held, descriptor),
-            filled,
-            capacity,
-            choice,
-        ),
-        Some(Stock::EventFd(counter)) => event_written(world, entry, counter, choice),
-        None => Outcome::BadChoice,
+    let entry = &row.entry;
+    let (Some(fd), Some(descriptor)) = (row.held, descriptor) else {
+        return (Outcome::BadChoice, Effect::Nothing);
+    };
+    let (object, address) = (descriptor.object, entry.addr as u32);
+    match world.stock(object) {
+        Some(Stock::File(_)) => {
+            let outcome = file_written(entry, position_of(Some(descriptor)), choice);
+            match outcome.count() {
+                Some(0) | None => (outcome, Effect::Nothing),
+                Some(n) => (
+                    outcome,
+                    Effect::WriteFile(transfer(entry, fd, &descriptor, n)),
+                ),
+            }
+        }
+        Some(Stock::Pipe(filled, capacity)) => {
+            let reader = world.has_reader(object, held);
+            let outcome = pipe_written(entry.len, reader, filled, capacity, choice);
+            match outcome.count() {
+                Some(0) | None => (outcome, Effect::Nothing),
+                Some(n) => (outcome, Effect::PutPipe(object, n, address)),
+            }
+        }
+        Some(Stock::EventFd(counter)) => add(world, entry, object, counter, choice),
+        None => (Outcome::BadChoice, Effect::Nothing),
+    }
+}
+
+// A WRITE to an eventfd.
+fn add(world: &World, entry: &Sqe, object: u32, counter: u64, choice: Choice) -> (Outcome, Effect)
+    requires within { entry.now.addr + entry.now.len ≤ 65536 }
+    ensures outcome { result.0 ≡ event_written entry.now.len counter
+        (number_at world.now entry.now.addr) choice }
+    ensures effect { (k : ℕ) → result.0 ≡ Res (pos k)
+        → (result.1 ≡ AddEvent object (number_at world.now entry.now.addr)) }
+    ensures failing { (n : ℕ) → result.0 ≡ Res (negsuc n) → result.1 ≡ Nothing }
+{
+    if entry.len < 8 {
+        return (fixed(-EINVAL, choice), Effect::Nothing);
+    }
+    let number = world.number_at(entry.addr as u32);
+    let outcome = event_written(counter, number, choice);
+    match outcome.count() {
+        Some(_) => (outcome, Effect::AddEvent(object, number)),
+        None => (outcome, Effect::Nothing),
+    }
+}
+
+// A transfer of bytes between a file and memory.
+fn transfer(entry: &Sqe, fd: u32, descriptor: &DescriptorState, count: u32) -> Transfer
+    requires in_file { offset_of entry.now (position_of (Some descriptor.now)) + count ≤ 65536 }
+    requires in_memory { entry.now.addr + count ≤ 65536 }
+    ensures read { (w : WorldState) → effected (ReadFile result) w
+        ≡ bytes_read entry.now fd descriptor.now count w }
+    ensures written { (w : WorldState) → effected (WriteFile result) w
+        ≡ bytes_written entry.now fd descriptor.now count w }
+    ensures can { (w : WorldState) → WorldFormed w → descriptor_of w fd ≡ Some descriptor.now
+        → IsSome (file_of w descriptor.now.object) → CanMove w result }
+{
+    let offset = offset_of(entry, position_of(Some(*descriptor)));
+    let moves = match descriptor.position {
+        Some(position) if is_at_position(entry) => Some((fd, position + u64::from(count))),
+        _ => None,
+    };
+    Transfer {
+        object: descriptor.object,
+        offset: offset as u32,
+        count,
+        address: entry.addr as u32,
+        moves,
     }
 }
 

@@ -1,12 +1,10 @@
 //! The results of reading and writing pipes and eventfds (pipe(7), eventfd(2)).
-ghost use Rattle.std.specs.Prelude.{◌≡◌, ◌+◌, ◌≤◌, min, pos};
-ghost use Rattle.model_files.specs.Worlds.{number_at};
+ghost use Rattle.std.specs.Prelude.{◌≡◌, ◌≤◌, ℕ, min, pos};
 ghost use Rattle.opcodes.specs.Outcomes.{pipe_read, pipe_written, waits_for_room, event_read, event_written};
 
 use crate::ending::Outcome;
 use crate::results::fixed;
-use entries::{Choice, EINVAL, EPIPE, Sqe};
-use model_files::World;
+use entries::{Choice, EINVAL, EPIPE};
 
 /// PIPE_BUF: writes of up to this many bytes are atomic, if the pipe's capacity isn't smaller.
 const AT_ONCE: u64 = 4096;
@@ -84,16 +82,11 @@ pub(crate) fn event_read(len: u32, counter: u64, choice: Choice) -> Outcome
     fixed(8, choice)
 }
 
-/// Returns the outcome of a WRITE to an eventfd. It waits while the sum would exceed 2^64 - 2.
-pub(crate) fn event_written(world: &World, entry: &Sqe, counter: u64, choice: Choice) -> Outcome
-    requires within { entry.now.addr + entry.now.len ≤ 65536 }
-    ensures { result ≡ event_written entry.now.len counter
-        (number_at world.now entry.now.addr) choice }
+/// Returns the outcome of a WRITE of at least 8 bytes to an eventfd. It waits while the sum would
+/// exceed 2^64 - 2.
+pub(crate) fn event_written(counter: u64, number: u64, choice: Choice) -> Outcome
+    ensures { (len : ℕ) → 8 ≤ len → result ≡ event_written len counter number choice }
 {
-    if entry.len < 8 {
-        return fixed(-EINVAL, choice);
-    }
-    let number = world.number_at(entry.addr as u32);
     if number == u64::MAX {
         return fixed(-EINVAL, choice);
     }

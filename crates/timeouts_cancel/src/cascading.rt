@@ -100,9 +100,9 @@ fn end_one(
     ensures on { IfOk result (λ next. at < next) }
 {
     let (r, res) = direct[at];
-    let row = table.row(r);
+    let row = table.row_ref(r);
     endings.push((r, res))?;
-    if severs(&row, res) {
+    if severs(row, res) {
         return sever(table, direct, r + 1, at + 1, row.unit, endings);
     }
     Ok(at + 1)
@@ -128,14 +128,14 @@ fn sever(
 {
     let mut next = at;
     for k in from..table.len() as u32 {
-        let row = table.row(k);
+        let row = table.row_ref(k);
         if row.unit != unit {
             return Ok(next);
         }
         if let Some(res) = result_at(direct, next, k) {
             endings.push((k, res))?;
             next += 1;
-        } else if is_unfinished(&row) {
+        } else if is_unfinished(row) {
             endings.push((k, -ECANCELED))?;
         }
     }

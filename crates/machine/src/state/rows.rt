@@ -7,7 +7,7 @@ ghost use Rattle.timeouts_cancel.specs.Matches.{matches_of};
 ghost use Rattle.machine.specs.Cancels.{key_of};
 ghost use Rattle.links_drains.specs.Holding.{is_held_by};
 ghost use Rattle.machine.specs.Deadlines.{deadline_at};
-ghost use Rattle.machine.specs.Transfers.{full_bytes, full_bytes_of, count_in};
+ghost use Rattle.machine.specs.Transfers.{full_bytes, full_bytes_of};
 ghost use Rattle.machine.specs.Whole.{WellFormed};
 
 use super::State;
@@ -15,7 +15,7 @@ use crate::cancelling::key_of;
 use crate::whole::Machine;
 use entries::{Row, Sqe};
 use links_drains::is_issued;
-use opcodes::{Choice, Op, Outcome};
+use opcodes::{Choice, Op};
 use timeouts_cancel::count_by;
 
 impl State {
@@ -90,19 +90,9 @@ impl Machine {
         let opcode = row.entry.opcode;
         let is_transfer = opcode == Op::Read as u8 || opcode == Op::Write as u8;
         if is_transfer && is_issued(row) {
-            count_in(self.outcome(row, Choice::Full))
+            self.decide(row, Choice::Full).0.count()
         } else {
             None
         }
-    }
-}
-
-// The number of bytes in a result that is no error.
-fn count_in(outcome: Outcome) -> Option<u32>
-    ensures { result ≡ count_in outcome }
-{
-    match outcome {
-        Outcome::Res(res) if res >= 0 => Some(res as u32),
-        _ => None,
     }
 }

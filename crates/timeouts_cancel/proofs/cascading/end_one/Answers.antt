@@ -10,11 +10,11 @@ sever-requires-clause-sweeping c =
     let fits : FitsSigned w32 e.1 = search rules in
     let same = to_z-of_z w32 e.1 fits in
     let items = c.in_ok-push.ensures.items ∙ ap (λ z. c.args.endings.now.items ++ (e.0, z) ∷ []) same in
-    let broken : (is_soft_linked c.row-row.result && is_bad c.row-row.result e.1) ≡ true = ap (λ z. is_soft_linked c.row-row.result && is_bad c.row-row.result z) (sym same) ∙ sym c.if-severs.ensures in
-    let b = both (is_soft_linked c.row-row.result) (is_bad c.row-row.result e.1) broken in
+    let broken : (is_soft_linked c.row_ref-row.result.now && is_bad c.row_ref-row.result.now e.1) ≡ true = ap (λ z. is_soft_linked c.row_ref-row.result.now && is_bad c.row_ref-row.result.now z) (sym same) ∙ sym c.if-severs.ensures in
+    let b = both (is_soft_linked c.row_ref-row.result.now) (is_bad c.row_ref-row.result.now e.1) broken in
     let w = c.requires.walked in
-    subst (λ (es : List Ending). Sweeping c.args.table.now c.args.direct.now (e.0 + 1) (c.args.at + 1) es c.row-row.result.unit) (sym items)
-    (sweep_start c.args.table.now c.args.direct.now w.0 c.args.at c.args.endings.now.items e c.row-row.result c.requires.direct w.1 (slice_get-get_or c.args.direct.now c.args.at (0, pos 0) c.requires.there) c.row-row.ensures b.0 b.1)
+    subst (λ (es : List Ending). Sweeping c.args.table.now c.args.direct.now (e.0 + 1) (c.args.at + 1) es c.row_ref-row.result.now.unit) (sym items)
+    (sweep_start c.args.table.now c.args.direct.now w.0 c.args.at c.args.endings.now.items e c.row_ref-row.result.now c.requires.direct w.1 (slice_get-get_or c.args.direct.now c.args.at (0, pos 0) c.requires.there) c.row_ref-row.ensures b.0 b.1)
 
 pub returns-clause-walked : goal.returns-clause-walked
 returns-clause-walked c =
@@ -22,9 +22,9 @@ returns-clause-walked c =
     let fits : FitsSigned w32 e.1 = search rules in
     let same = to_z-of_z w32 e.1 fits in
     let items = c.in_ok-push.ensures.items ∙ ap (λ z. c.args.endings.now.items ++ (e.0, z) ∷ []) same in
-    let broken : (is_soft_linked c.row-row.result && is_bad c.row-row.result e.1) ≡ false = ap (λ z. is_soft_linked c.row-row.result && is_bad c.row-row.result z) (sym same) ∙ sym c.if-severs.ensures in
+    let broken : (is_soft_linked c.row_ref-row.result.now && is_bad c.row_ref-row.result.now e.1) ≡ false = ap (λ z. is_soft_linked c.row_ref-row.result.now && is_bad c.row_ref-row.result.now z) (sym same) ∙ sym c.if-severs.ensures in
     let w = c.requires.walked in (
       e.0 + 1,
       subst (λ (es : List Ending). Walked c.args.table.now c.args.direct.now (e.0 + 1) (c.args.at + 1) es) (sym items)
-          (walked_direct c.args.table.now c.args.direct.now w.0 c.args.at c.args.endings.now.items e c.row-row.result c.requires.direct w.1 (slice_get-get_or c.args.direct.now c.args.at (0, pos 0) c.requires.there) c.row-row.ensures broken),
+          (walked_direct c.args.table.now c.args.direct.now w.0 c.args.at c.args.endings.now.items e c.row_ref-row.result.now c.requires.direct w.1 (slice_get-get_or c.args.direct.now c.args.at (0, pos 0) c.requires.there) c.row_ref-row.ensures broken),
     )

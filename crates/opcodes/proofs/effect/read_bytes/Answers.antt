@@ -1,0 +1,6 @@
+use Rattle.opcodes.proofs.Common.{ap, WorldState}
+use Rattle.opcodes.proofs.Moving.{position_still}
+use Rattle.opcodes.proofs.effect.read_bytes.Goals as goal
+
+pub move_on-requires : goal.move_on-requires
+move_on-requires c = record { there = λ m h. position_still c.args.world.now c.read_at.new.self m.0 (ap (λ (w : WorldState). w.descriptors) c.in_ok-read_at.ensures.ok) (c.requires.can.moves m h) }
