@@ -106,7 +106,7 @@ grows_entered m t k w flags = by m.poller refl
 
 -- ---- Memory and objects
 
-grows_world : (m : Machine) (w : WorldState) → OneWorldSetup m.world w → Grows m (record m { world = w })
+pub grows_world : (m : Machine) (w : WorldState) → OneWorldSetup m.world w → Grows m (record m { world = w })
 grows_world = grind arith
 
 -- The memory or an object changes, and a thread advances.
