@@ -4,3 +4,4 @@ pub mod Nothing
 pub mod Staying
 pub mod Counting
 pub mod Moving
+pub mod Timing
