@@ -1,9 +1,10 @@
 -- Lemmas about the first entries of a batch, as requests are added one by one.
-use Rattle.links_drains.proofs.Common.{◌≡◌, ℕ, ℤ, zero, suc, Bool, true, false, not, cond, refl, sym, ◌∙◌, ap, List, [], ◌∷◌, ◌++◌, take, length, ◌<◌, ◌≤◌, ◌+◌, ◌⊎◌, inl, inr, append_assoc, length-append, map, subst, arith, Option, Some, None, option_map, is_none, is_some, slice_get, option_map_or, prefix_len, list_any, enumerate_from, common_steps, length-take-le, take_all, gets, slice_get-map, Sqe, Row, Keeps, named, keeps_then, WorldState, previous_in, chain_of, error_at, error_of, errors_of, row_of, rows_of, target_of, up_to_failure, is_linked, ChainContinues, table_owns, table_seen, new_row}
+use Rattle.links_drains.proofs.Common.{◌≡◌, ◌≢◌, ℕ, ℤ, zero, suc, Bool, true, false, not, cond, refl, sym, ◌∙◌, ap, List, [], ◌∷◌, ◌++◌, take, length, ◌<◌, ◌≤◌, ◌+◌, ◌⊎◌, inl, inr, append_assoc, length-append, map, subst, arith, Option, Some, None, option_map, is_none, is_some, slice_get, option_map_or, prefix_len, list_any, enumerate_from, common_steps, length-take-le, take_all, gets, slice_get-map, slice_get_past, slice_get_within, slice_get-take_below, slice_get-take_above, same_list, cases_lt, cases_eq, eq-eqb, ne_eqb, ◌==◌, option_and_then, ◌&&◌, ◌-◌, Sqe, Row, Keeps, named, keeps_then, WorldState, previous_in, chain_of, error_at, error_of, errors_of, row_of, rows_of, target_of, up_to_failure, taken_of, halts, shown_on, error_in, is_linked, ChainContinues, table_owns, table_seen, new_row}
 use Rattle.std.proofs.lemmas.List.FromFn.{length-enumerate_from}
 use Rattle.places.specs.Notes.{Notes}
 use Rattle.places.specs.declared.place.Place.{Place}
-use Rattle.opcodes.specs.Check.{time_of}
+use Rattle.std.specs.Result.{result_err}
+use Rattle.opcodes.specs.Check.{check_of, time_of}
 use Rattle.links_drains.proofs.Chains.{enumerated, get-batch}
 use Rattle.links_drains.proofs.RowsKept.{length-push, get-pushed}
 
@@ -69,6 +70,79 @@ all_pass w es h = none_fails (errors_of w es) (let n = length-errors w es in ome
 pub take_more : {X : Type 0} (xs : List X) (i : ℕ) (x : X) → slice_get xs i ≡ Some x → take (i + 1) xs ≡ take i xs ++ x ∷ []
 take_more xs i x g = grind (arith, common_steps, gets)
 
+-- ---- A batch of the first entries
+
+previous_taken : (es : List Sqe) (n i : ℕ) → i < n → previous_in (take n es) i ≡ previous_in es i
+previous_taken es n zero h = refl
+previous_taken es n (suc i) h = ap (option_and_then shown_on) (slice_get-take_below es n i (omega (arith, h)))
+
+chain_taken : (es : List Sqe) (n i : ℕ) → i < n → chain_of (take n es) i ≡ chain_of es i
+chain_taken es n zero h = refl
+chain_taken es n (suc i) h = rw (slice_get-take_below es n i (omega (arith, h)), chain_taken es n i (omega (arith, h))) refl
+
+row_taken : (w : WorldState) (first : ℕ) (es : List Sqe) (n i : ℕ) (e : Sqe) → i < n → row_of w first (take n es) i e ≡ row_of w first es i e
+row_taken = grind (arith, previous_taken, chain_taken)
+
+error_taken : (w : WorldState) (es : List Sqe) (n i : ℕ) → i < n → error_at w (take n es) i ≡ error_at w es i
+error_taken = grind (arith, previous_taken, slice_get-take_below)
+
+rows_taken : (w : WorldState) (first : ℕ) (es : List Sqe) (n : ℕ) → take n (rows_of w first es) ≡ rows_of w first (take n es)
+rows_taken w first es n = same_list _ _ (λ i. by i (cases_lt i n))
+  where
+    by : (i : ℕ) → (i < n) ⊎ (n ≤ i) → slice_get (take n (rows_of w first es)) i ≡ slice_get (rows_of w first (take n es)) i
+    by i (inl less) = slice_get-take_below (rows_of w first es) n i less ∙ get-batch w first es i ∙ here (slice_get es i)
+        ∙ sym (get-batch w first (take n es) i ∙ ap (option_map (row_of w first (take n es) i)) (slice_get-take_below es n i less))
+      where
+        here : (o : Option Sqe) → option_map (row_of w first es i) o ≡ option_map (row_of w first (take n es) i) o
+        here None = refl
+        here (Some e) = ap Some (sym (row_taken w first es n i e less))
+    by i (inr past) = slice_get-take_above (rows_of w first es) n i past ∙ sym (get-batch w first (take n es) i ∙ ap (option_map (row_of w first (take n es) i)) (slice_get-take_above es n i past))
+
+-- The list has the errors of the first i entries.
+pub record Listed (w : WorldState) (es : List Sqe) (i : ℕ) (errors : List (Option ℤ)) : Type 0 where
+  pub few : length errors ≤ i
+  pub each : (k : ℕ) → k < i → error_in errors k ≡ error_at w es k
+
+pub listed_on : (w : WorldState) (es : List Sqe) (i : ℕ) (error : Option ℤ) (old new : List (Option ℤ)) → Listed w es i old → error ≡ error_at w es i → length new ≤ i + 1
+    → ((k : ℕ) → error_in new k ≡ cond (k == i) error (error_in old k)) → Listed w es (i + 1) new
+listed_on w es i error old new t is few each = record { few = few; each = λ k l. each k ∙ by k (cases_eq k i) l }
+  where
+    by : (k : ℕ) → (k ≡ i) ⊎ (k ≢ i) → k < i + 1 → cond (k == i) error (error_in old k) ≡ error_at w es k
+    by k (inl at) l = ap (λ b. cond b error (error_in old k)) (eq-eqb k i at) ∙ is ∙ ap (error_at w es) (sym at)
+    by k (inr other) l = ap (λ b. cond b error (error_in old k)) (ne_eqb k i other) ∙ t.each k (omega (arith, l, other))
+
+pub errors_taken : (w : WorldState) (es taken : List Sqe) (n : ℕ) (errors : List (Option ℤ)) → Listed w es n errors → take n es ≡ taken → (k : ℕ) → error_in errors k ≡ error_at w taken k
+errors_taken w es taken n errors t is k = by (cases_lt k n) ∙ ap (λ xs. error_at w xs k) is
+  where
+    by : (k < n) ⊎ (n ≤ k) → error_in errors k ≡ error_at w (take n es) k
+    by (inl less) = t.each k less ∙ sym (error_taken w es n k less)
+    by (inr past) = let few = t.few in ap (option_and_then (λ (o : Option ℤ). o)) (slice_get_past errors k (omega (arith, few, past))) ∙ sym (ap (option_and_then (error_of w (take n es) k)) (slice_get-take_above es n k past))
+
+-- The entries that are taken: all, or those up to the first that fails.
+pub record Taken (w : WorldState) (es : List Sqe) (submit_all : Bool) (n : ℕ) (halted : Bool) : Type 0 where
+  pub within : n ≤ length es
+  pub taken : take n es ≡ taken_of submit_all w es
+  pub halts : halted ≡ halts submit_all w es
+
+pub all_taken : (w : WorldState) (es : List Sqe) (submit_all : Bool) (n : ℕ) → n ≡ length es → (submit_all ≡ false → n ≤ prefix_len is_none (errors_of w es)) → Taken w es submit_all n false
+all_taken w es true n len h = record { within = omega (arith, len); taken = take_all n es (omega (arith, len)); halts = refl }
+all_taken w es false n len h = let passes = h refl in record {
+  within = omega (arith, len);
+  taken = take_all n es (omega (arith, len)) ∙ sym (take_all _ es (omega (arith, len, passes)));
+  halts = sym (all_pass w es (omega (arith, len, passes)));
+}
+
+pub failure_taken : (w : WorldState) (es : List Sqe) (submit_all : Bool) (i : ℕ) (e : Sqe) → submit_all ≡ false → (submit_all ≡ false → i ≤ prefix_len is_none (errors_of w es)) → slice_get es i ≡ Some e → is_some (error_at w es i) ≡ true → Taken w es submit_all (i + 1) true
+failure_taken w es true i e s h g f = absurd cc
+failure_taken w es false i e s h g f = record {
+  within = let l = slice_get_within es i e g in omega (arith, l);
+  taken = ends_with_failure w es i e (h refl) g f;
+  halts = sym (one_fails w es i e g f);
+}
+
+pub count_taken : (w : WorldState) (es : List Sqe) (submit_all : Bool) (n : ℕ) (halted : Bool) → Taken w es submit_all n halted → n ≡ length (taken_of submit_all w es)
+count_taken w es submit_all n halted t = sym (length-take-le n es t.within) ∙ ap length t.taken
+
 -- ---- The rows of the first entries
 
 pub length-rows_of : (w : WorldState) (first : ℕ) (es : List Sqe) → length (rows_of w first es) ≡ length es
@@ -78,68 +152,69 @@ length-rows_of w first es = length_mapped (λ (p : ℕ × Sqe). row_of w first e
 abbrev LastOf : List Row → ℕ → Type 0
 LastOf rows unit = (last : Row) × (k : ℕ) × (k + 1 ≡ length rows) × (slice_get rows k ≡ Some last) × (unit ≡ last.unit)
 
--- The first i entries have become rows. The next row belongs to the chain `unit`, or begins one.
-pub record Adding (w : WorldState) (before now : List Row) (old new : Notes) (entries : List Sqe) (i unit : ℕ) (begins : Bool) : Type 0 where
+-- The first i entries have become rows. The next row belongs to the chain `unit`.
+pub record Adding (w : WorldState) (before now : List Row) (old new : Notes) (entries : List Sqe) (i unit : ℕ) : Type 0 where
   pub rows : now ≡ before ++ take i (rows_of w (length before) entries)
-  pub next_unit : cond begins (length before + i) unit ≡ length before + chain_of entries i
-  pub last : (begins ≡ true) ⊎ LastOf now unit
+  pub next_unit : unit ≡ length before + chain_of entries i
+  pub last : (unit ≡ length now) ⊎ LastOf now unit
   pub keeps : Keeps table_owns (table_seen before) (table_seen now) old.made new.made
   pub names : (p : Place) → named new.made p ≡ None → named old.made p ≡ None
   pub numbers : old.numbers ≤ new.numbers
   pub completions : old.completions ≤ new.completions
 
-pub count_added : (w : WorldState) (before now : List Row) (old new : Notes) (es : List Sqe) (i unit : ℕ) (begins : Bool) → Adding w before now old new es i unit begins → i ≤ length es → length now ≡ length before + i
+pub count_added : (w : WorldState) (before now : List Row) (old new : Notes) (es : List Sqe) (i unit : ℕ) → Adding w before now old new es i unit → i ≤ length es → length now ≡ length before + i
 count_added = grind (arith, length-append, length-take-le, length-rows_of)
 
--- All entries have become rows.
-pub all_added : (w : WorldState) (before now : List Row) (old new : Notes) (es : List Sqe) (i unit : ℕ) (begins : Bool) → Adding w before now old new es i unit begins → length es ≤ i → now ≡ before ++ rows_of w (length before) es
-all_added = grind (arith, take_all, length-rows_of)
+-- The entries that are taken have become rows.
+pub all_added : (w : WorldState) (before now : List Row) (es taken : List Sqe) (n : ℕ) → now ≡ before ++ take n (rows_of w (length before) es) → take n es ≡ taken → now ≡ before ++ rows_of w (length before) taken
+all_added w before now es taken n h is = h ∙ ap (λ rs. before ++ rs) (rows_taken w (length before) es n ∙ ap (rows_of w (length before)) is)
 
 -- The next row begins a chain, or belongs to the last row's.
-pub next_continues : (w : WorldState) (before now : List Row) (old new : Notes) (es : List Sqe) (i unit here : ℕ) (begins : Bool) (row : Row) → Adding w before now old new es i unit begins → i ≤ length es
-    → here ≡ cond begins (length before + i) unit → row.unit ≡ here → ChainContinues now row
-next_continues w before now old new es i unit here begins row t l u e = by begins t.last (e ∙ u)
-  where
-    by : (b : Bool) → (b ≡ true) ⊎ LastOf now unit → row.unit ≡ cond b (length before + i) unit → ChainContinues now row
-    by true m k = inl (k ∙ sym (count_added w before now old new es i unit begins t l))
-    by false (inl m) k = absurd cc
-    by false (inr m) k = inr (m.0, m.1, m.2, m.3, k ∙ m.4)
+pub next_continues : (now : List Row) (unit : ℕ) (row : Row) → (unit ≡ length now) ⊎ LastOf now unit → row.unit ≡ unit → ChainContinues now row
+next_continues now unit row (inl m) e = inl (e ∙ m)
+next_continues now unit row (inr m) e = inr (m.0, m.1, m.2, m.3, e ∙ m.4)
 
 -- One more row was added.
-pub adding_on : (w : WorldState) (before now later : List Row) (old new newer : Notes) (es : List Sqe) (i unit here : ℕ) (begins : Bool) (e : Sqe) (row : Row) → Adding w before now old new es i unit begins → slice_get es i ≡ Some e
-    → here ≡ cond begins (length before + i) unit → row ≡ new_row e here (time_of w (previous_in es i) e) (target_of w (length before) es i e)
-    → later ≡ now ++ row ∷ [] → Keeps table_owns (table_seen now) (table_seen later) new.made newer.made → ((p : Place) → named newer.made p ≡ None → named new.made p ≡ None)
-    → new.numbers ≤ newer.numbers → new.completions ≤ newer.completions → Adding w before later old newer es (i + 1) here (not (is_linked e))
-adding_on w before now later old new newer es i unit here begins e row t g u r h k names numbers completions = record {
-  rows = h ∙ ap (λ rs. rs ++ row ∷ []) t.rows ∙ append_assoc before (take i (rows_of w (length before) es)) (row ∷ []) ∙ ap (λ rs. before ++ rs) (sym (take_more (rows_of w (length before) es) i row there));
-  next_unit = next (is_linked e) refl;
-  last = inr (subst (λ rs. LastOf rs here) (sym h) (row, length now, sym (length-push now row), get-pushed now row, sym (ap (λ (x : Row). x.unit) r)));
-  keeps = keeps_then table_owns (table_seen before) (table_seen now) (table_seen later) old.made new.made newer.made t.keeps k;
-  names = λ p n. t.names p (names p n);
-  numbers = let n = t.numbers in omega (arith, n, numbers);
-  completions = let n = t.completions in omega (arith, n, completions);
-}
+pub rows_on : (w : WorldState) (before now later : List Row) (old new : Notes) (es : List Sqe) (i unit : ℕ) (e : Sqe) (row : Row) → Adding w before now old new es i unit → slice_get es i ≡ Some e
+    → row ≡ new_row e unit (time_of w (previous_in es i) e) (target_of w (length before) es i e) → later ≡ now ++ row ∷ [] → later ≡ before ++ take (i + 1) (rows_of w (length before) es)
+rows_on w before now later old new es i unit e row t g r h =
+    h ∙ ap (λ rs. rs ++ row ∷ []) t.rows ∙ append_assoc before (take i (rows_of w (length before) es)) (row ∷ []) ∙ ap (λ rs. before ++ rs) (sym (take_more (rows_of w (length before) es) i row there))
   where
-    unit_is : here ≡ length before + chain_of es i
-    unit_is = u ∙ t.next_unit
-
     there : slice_get (rows_of w (length before) es) i ≡ Some row
     there = get-batch w (length before) es i ∙ ap (option_map (row_of w (length before) es i)) g
-        ∙ ap Some (ap (λ n. new_row e n (time_of w (previous_in es i) e) (target_of w (length before) es i e)) (sym unit_is) ∙ sym r)
+        ∙ ap Some (ap (λ n. new_row e n (time_of w (previous_in es i) e) (target_of w (length before) es i e)) (sym t.next_unit) ∙ sym r)
 
-    next : (b : Bool) → is_linked e ≡ b → cond (not b) (length before + (i + 1)) here ≡ length before + chain_of es (i + 1)
-    next b l = by b ∙ sym (ap (λ n. length before + chain_of es n) one ∙ ap (λ o. length before + cond (option_map_or is_linked o false) (chain_of es i) (suc i)) g ∙ ap (λ c. length before + cond c (chain_of es i) (suc i)) l)
+pub adding_on : (w : WorldState) (before now later : List Row) (old new newer : Notes) (es : List Sqe) (i unit next : ℕ) (e : Sqe) (row : Row) → Adding w before now old new es i unit → slice_get es i ≡ Some e → i < length es
+    → row ≡ new_row e unit (time_of w (previous_in es i) e) (target_of w (length before) es i e) → later ≡ now ++ row ∷ [] → next ≡ cond (is_linked e) unit (length before + i + 1)
+    → Keeps table_owns (table_seen now) (table_seen later) new.made newer.made → ((p : Place) → named newer.made p ≡ None → named new.made p ≡ None)
+    → new.numbers ≤ newer.numbers → new.completions ≤ newer.completions → Adding w before later old newer es (i + 1) next
+adding_on w before now later old new newer es i unit next e row t g l r h n k names numbers completions = record {
+  rows = rows_on w before now later old new es i unit e row t g r h;
+  next_unit = n ∙ chain (is_linked e) refl;
+  last = place (is_linked e) n;
+  keeps = keeps_then table_owns (table_seen before) (table_seen now) (table_seen later) old.made new.made newer.made t.keeps k;
+  names = λ p x. t.names p (names p x);
+  numbers = let x = t.numbers in omega (arith, x, numbers);
+  completions = let x = t.completions in omega (arith, x, completions);
+}
+  where
+    chain : (b : Bool) → is_linked e ≡ b → cond b unit (length before + i + 1) ≡ length before + chain_of es (i + 1)
+    chain b k = by b ∙ sym (ap (λ m. length before + chain_of es m) one ∙ ap (λ o. length before + cond (option_map_or is_linked o false) (chain_of es i) (suc i)) g ∙ ap (λ c. length before + cond c (chain_of es i) (suc i)) k)
       where
         one : i + 1 ≡ suc i
         one = omega arith
 
-        by : (c : Bool) → cond (not c) (length before + (i + 1)) here ≡ length before + cond c (chain_of es i) (suc i)
-        by true = unit_is
+        by : (c : Bool) → cond c unit (length before + i + 1) ≡ length before + cond c (chain_of es i) (suc i)
+        by true = t.next_unit
         by false = omega arith
 
+    place : (b : Bool) → next ≡ cond b unit (length before + i + 1) → (next ≡ length later) ⊎ LastOf later next
+    place true k = inr (subst (λ rs. LastOf rs next) (sym h) (row, length now, sym (length-push now row), get-pushed now row, k ∙ sym (ap (λ (x : Row). x.unit) r)))
+    place false k = inl (let c = count_added w before now old new es i unit t (omega (arith, l)) in let m = ap length h ∙ length-push now row in omega (arith, k, c, m))
+
 -- The row of an entry, by its fields.
-pub row_is_row_of : (w : WorldState) (first : ℕ) (es : List Sqe) (i unit : ℕ) (x e : Sqe) (previous time target : Option ℕ) (row : Row) → row ≡ new_row x unit time target → time ≡ time_of w previous x → previous ≡ previous_in es i
-    → target ≡ target_of w first es i e → x ≡ e → row ≡ new_row e unit (time_of w (previous_in es i) e) (target_of w first es i e)
+pub row_is_row_of : (w : WorldState) (first : ℕ) (es : List Sqe) (i unit : ℕ) (x e : Sqe) (previous time target : Option ℕ) (error : Option ℤ) (row : Row) → row ≡ new_row x unit time target → time ≡ time_of w previous x → previous ≡ previous_in es i
+    → error ≡ result_err (check_of w previous x) → target ≡ cond ((x.opcode == 15) && is_none error) (Some (first + i - 1)) None → x ≡ e → row ≡ new_row e unit (time_of w (previous_in es i) e) (target_of w first es i e)
 row_is_row_of = grind arith
 
 -- There is an entry at each index within the batch.

@@ -1,36 +1,25 @@
 -- The requests of a batch that complete as they are submitted, computed row by row.
-use Rattle.links_drains.proofs.Common.{◌≡◌, ℕ, ℤ, zero, suc, Bool, true, false, cond, refl, sym, ◌∙◌, ap, map, List, [], ◌∷◌, ◌++◌, take, drop, length, replicate, get_or, ◌<◌, ◌≤◌, ◌+◌, ◌-◌, arith, Option, Some, None, option_map, is_some, slice_get, slice_set, ◌==◌, ◌&&◌, ◌||◌, option_and_then, cons_option, list_any, enumerate_from, eq-eqb, eqb-true, ne_eqb, and_left, and_right, get_or-drop, length-drop, length-set, length-replicate, length-take-le, take_all, slice_get-get_or, get_or_from_slice_get, Sqe, Row, slice_get-set, WorldState, chain_fails, chain_of, error_at, error_of, errors_of, rows_of, direct_of, direct_result, ecanceled, given, or_else, paired, endings_from, is_unfinished}
+use Rattle.links_drains.proofs.Common.{◌≡◌, ℕ, ℤ, zero, suc, Bool, true, false, cond, refl, sym, ◌∙◌, ap, map, List, [], ◌∷◌, ◌++◌, take, drop, length, replicate, get_or, ◌<◌, ◌≤◌, ◌+◌, ◌-◌, arith, Option, Some, None, option_map, is_some, slice_get, slice_set, ◌==◌, ◌&&◌, ◌||◌, option_and_then, cons_option, list_any, enumerate_from, eq-eqb, eqb-true, ne_eqb, and_left, and_right, get_or-drop, length-drop, length-set, length-replicate, length-take-le, take_all, slice_get_read, slice_get_within, get_or_from_slice_get, Submitted, Sqe, Row, slice_get-set, WorldState, chain_fails, chain_of, error_at, error_of, errors_of, rows_of, direct_of, direct_result, ecanceled, given, or_else, paired, endings_from, is_unfinished}
 use Rattle.std.proofs.lemmas.List.FromFn.{length-enumerate_from}
 use Rattle.std.proofs.lemmas.List.Folds.{list_any-append}
-use Rattle.links_drains.proofs.Batching.{element_there, length-rows_of, one_fails, take_more}
-use Rattle.links_drains.proofs.Chains.{became, chain_before, enumerated}
+use Rattle.links_drains.proofs.Batching.{element_there, length-rows_of, take_more}
+use Rattle.links_drains.proofs.Chains.{Became, became, chain_before, enumerated}
 use Rattle.links_drains.proofs.Listing.{result_of, endings_step}
+use Rattle.links_drains.proofs.Units.{any_false}
 
 -- ---- Rows of a batch
 
-unit_of : (w : WorldState) (first : ℕ) (es : List Sqe) (rows : List Row) (i : ℕ) (d : Row) → rows ≡ rows_of w first es → i < length rows → (get_or rows i d).unit ≡ first + chain_of es i
-unit_of w first es rows i d b h =
-    ap (λ (x : Row). x.unit) (became w first es i (get_or rows i d) (sym (ap (λ (rs : List Row). slice_get rs i) b) ∙ slice_get-get_or rows i d h)).is
-
-pub unit_low : (w : WorldState) (first : ℕ) (es : List Sqe) (rows : List Row) (i : ℕ) (d : Row) → rows ≡ rows_of w first es → i < length rows → first ≤ (get_or rows i d).unit
-unit_low w first es rows i d b h = let u = unit_of w first es rows i d b h in omega (arith, u)
-
-pub unit_high : (w : WorldState) (first : ℕ) (es : List Sqe) (rows : List Row) (i : ℕ) (d : Row) → rows ≡ rows_of w first es → i < length rows → (get_or rows i d).unit - first < length rows
-unit_high w first es rows i d b h = let u = unit_of w first es rows i d b h in let c = chain_before es i in omega (arith, u, c, h)
-
-pub chain_is : (w : WorldState) (first : ℕ) (es : List Sqe) (rows : List Row) (i : ℕ) (d : Row) → rows ≡ rows_of w first es → i < length rows → (get_or rows i d).unit - first ≡ chain_of es i
-chain_is w first es rows i d b h = let u = unit_of w first es rows i d b h in omega (arith, u)
-
 -- There are as many rows as entries.
-pub many : (w : WorldState) (first : ℕ) (es : List Sqe) (rows : List Row) → rows ≡ rows_of w first es → length rows ≡ length es
-many w first es rows b = ap length b ∙ length-rows_of w first es
+pub many : (w : WorldState) (first : ℕ) (es : List Sqe) (rows : List Row) → drop first rows ≡ rows_of w first es → length rows - first ≡ length es
+many w first es rows b = sym (length-drop first rows) ∙ ap length b ∙ length-rows_of w first es
 
 -- A row at the end of a table, in the batch that the table ends with.
-pub row_in_batch : (rows : List Row) (first i : ℕ) (row : Row) → row ≡ get_or rows (first + i) row → row ≡ get_or (drop first rows) i row
-row_in_batch rows first i row is = is ∙ sym (get_or-drop first rows i row)
-
-pub there_in_batch : (w : WorldState) (first : ℕ) (es : List Sqe) (rows : List Row) (i : ℕ) → drop first rows ≡ rows_of w first es → i < length es → first + i < length rows
-there_in_batch w first es rows i b h = let n = many w first es (drop first rows) b in let l = length-drop first rows in omega (arith, n, l, h)
+pub row_in : (w : WorldState) (es : List Sqe) (first : ℕ) (rows : List Row) (errors : List (Option ℤ)) (i : ℕ) (row : Row) → Submitted w es first rows errors → i < length rows - first → row ≡ get_or rows (first + i) row
+    → (slice_get (drop first rows) i ≡ Some row) × (row.unit ≡ first + chain_of es i)
+row_in w es first rows errors i row o h e = (here, ap (λ (x : Row). x.unit) (became w first es i row (sym (ap (λ (rs : List Row). slice_get rs i) o.batch) ∙ here)).is)
+  where
+    here : slice_get (drop first rows) i ≡ Some row
+    here = let n = length-drop first rows in slice_get_read (drop first rows) (length (drop first rows)) i row refl (omega (arith, n, h)) (e ∙ sym (get_or-drop first rows i row))
 
 -- ---- Chains that fail
 
@@ -112,11 +101,11 @@ endings_more f n [] row = endings_step f n row [] ∙ (let m : n ≡ n + 0 = ome
 endings_more f n (x ∷ rows) row = grind (arith, endings_more f (n + 1) rows row)
 
 -- The result of the next row, given whether its chain fails.
-pub ends_more : (w : WorldState) (first : ℕ) (es : List Sqe) (rows : List Row) (i : ℕ) (d : Row) (failing : List Bool) (c b : Bool) (o p : Option ℤ) → rows ≡ rows_of w first es → i < length rows
-    → ((u : ℕ) → u < length rows → slice_get failing u ≡ Some (chain_fails w es u))
-    → b ≡ get_or failing ((get_or rows i d).unit - first) c → o ≡ or_else (error_at w es i) (given b ecanceled) → o ≡ p
+pub ends_more : (w : WorldState) (first : ℕ) (es : List Sqe) (rows : List Row) (i : ℕ) (row : Row) (failing : List Bool) (c b : Bool) (o p : Option ℤ) → rows ≡ rows_of w first es
+    → slice_get rows i ≡ Some row → row.unit ≡ first + chain_of es i → ((u : ℕ) → u < length es → slice_get failing u ≡ Some (chain_fails w es u))
+    → b ≡ get_or failing (row.unit - first) c → o ≡ or_else (error_at w es i) (given b ecanceled) → o ≡ p
     → endings_from (λ r x. direct_result w es (r - first)) first (take (i + 1) rows) ≡ endings_from (λ r x. direct_result w es (r - first)) first (take i rows) ++ cons_option (paired (first + i) p) []
-ends_more w first es rows i d failing c b o p batch h known e g k =
+ends_more w first es rows i row failing c b o p batch here unit known e g k =
     ap (endings_from test first) (take_more rows i row here)
     ∙ endings_more test first (take i rows) row
     ∙ ap (λ n. endings_from test first (take i rows) ++ cons_option (paired (first + n) (result_of test (first + n) row)) []) len
@@ -125,20 +114,20 @@ ends_more w first es rows i d failing c b o p batch h known e g k =
     test : ℕ → Row → Option ℤ
     test r x = direct_result w es (r - first)
 
-    row : Row
-    row = get_or rows i d
-
-    here : slice_get rows i ≡ Some row
-    here = slice_get-get_or rows i d h
+    from : Became w first es i row
+    from = became w first es i row (sym (ap (λ (rs : List Row). slice_get rs i) batch) ∙ here)
 
     len : length (take i rows) ≡ i
-    len = length-take-le i rows (omega (arith, h))
+    len = let h = slice_get_within rows i row here in length-take-le i rows (omega (arith, h))
 
     fails_so : b ≡ chain_fails w es (chain_of es i)
-    fails_so = e ∙ get_or_from_slice_get failing (row.unit - first) _ c (known (row.unit - first) (unit_high w first es rows i d batch h)) ∙ ap (chain_fails w es) (chain_is w first es rows i d batch h)
+    fails_so =
+        let m : row.unit - first ≡ chain_of es i = omega (arith, unit) in
+        let h = slice_get_within es i from.entry from.there in
+        e ∙ ap (λ n. get_or failing n c) m ∙ get_or_from_slice_get failing (chain_of es i) _ c (known (chain_of es i) (omega (arith, h, chain_before es i)))
 
     queued : is_unfinished row.phase ≡ true
-    queued = ap (λ (x : Row). is_unfinished x.phase) (became w first es i row (sym (ap (λ (rs : List Row). slice_get rs i) batch) ∙ here)).is
+    queued = ap (λ (x : Row). is_unfinished x.phase) from.is
 
     gives : result_of test (first + i) row ≡ o
     gives =
@@ -152,19 +141,14 @@ ends_none : (f : ℕ → Row → Option ℤ) (n : ℕ) (rows : List Row) → ((r
 ends_none f n [] h = refl
 ends_none f n (row ∷ rows) h = grind (arith, h n row, ends_none f (n + 1) rows h)
 
-fails_none : (f : ℕ × Sqe → Option ℤ) (test : ℕ × Sqe → Bool) (ps : List (ℕ × Sqe)) → list_any is_some (map f ps) ≡ false → list_any (λ p. test p && is_some (f p)) ps ≡ false
-fails_none f test [] h = refl
-fails_none f test (p ∷ ps) h = grind (arith, fails_none f test ps)
-
-pub direct_none : (w : WorldState) (first : ℕ) (es : List Sqe) → list_any is_some (errors_of w es) ≡ false → direct_of w first es ≡ []
-direct_none w first es h = ends_none _ first (rows_of w first es) (λ r row. passes (r - first))
+pub direct_none : (w : WorldState) (first : ℕ) (es : List Sqe) → ((i : ℕ) → error_at w es i ≡ None) → direct_of w first es ≡ []
+direct_none w first es h = ends_none _ first (rows_of w first es) (λ r row. rw (h (r - first), chain_passes (chain_of es (r - first))) refl)
   where
-    valid : (i : ℕ) (o : Option Sqe) → slice_get es i ≡ o → option_and_then (error_of w es i) o ≡ None
-    valid i None g = refl
-    valid i (Some e) g = grind (arith, one_fails w es i e g)
-
     chain_passes : (chain : ℕ) → chain_fails w es chain ≡ false
-    chain_passes chain = fails_none (λ p. error_of w es p.0 p.1) (λ p. chain_of es p.0 == chain) (enumerate_from 0 es) h
-
-    passes : (i : ℕ) → direct_result w es i ≡ None
-    passes i = rw (valid i (slice_get es i) refl, chain_passes (chain_of es i)) refl
+    chain_passes chain = any_false (fails_in w es chain) (enumerate_from 0 es) (λ i p g. by i p (slice_get es i) refl (sym (enumerated es i) ∙ g))
+      where
+        by : (i : ℕ) (p : ℕ × Sqe) (o : Option Sqe) → slice_get es i ≡ o → option_map (λ (x : Sqe). (i, x)) o ≡ Some p → fails_in w es chain p ≡ false
+        by i p None g k = absurd cc
+        by i p (Some e) g k =
+            let same : (i, e) ≡ p = cc in
+            ap (fails_in w es chain) (sym same) ∙ and_right _ _ (ap is_some (sym (error_here w es i e g) ∙ h i))

@@ -1,5 +1,6 @@
 -- The fields of a request that never change.
-use Rattle.links_drains.proofs.Common.{◌≡◌, ℕ, ap, List, map, length, ◌<◌, arith, Some, option_map, slice_get, slice_set, nat_lt, ◌==◌, ◌&&◌, slice_get_within, Sqe, Row, map_same, has_count, fixed_of}
+use Rattle.links_drains.proofs.Common.{◌≡◌, ℕ, ap, List, map, length, ◌<◌, arith, Some, option_map, slice_get, slice_set, nat_lt, ◌==◌, ◌&&◌, slice_get_within, Sqe, Row, map_same, has_count, has_drain_flag, fixed_of}
+use Rattle.links_drains.specs.Links.{has_flag}
 
 -- Row i exists and may be replaced by the row.
 pub record Fixed (rows : List Row) (i : ℕ) (row : Row) : Type 0 where
@@ -18,6 +19,9 @@ same_unit row before h = ap (λ (p : Sqe × ℕ). p.1) h
 
 pub same_count : (row before : Row) → fixed_of row ≡ fixed_of before → has_count row ≡ has_count before
 same_count row before h = ap (λ (p : Sqe × ℕ). (p.0.opcode == 11) && nat_lt 0 p.0.off) h
+
+pub same_drain : (row before : Row) → fixed_of row ≡ fixed_of before → has_drain_flag row ≡ has_drain_flag before
+same_drain row before h = ap (λ (p : Sqe × ℕ). has_flag p.0.flags 2) h
 
 pub fixed_here : (rows : List Row) (i : ℕ) (before : Row) → slice_get rows i ≡ Some before → option_map fixed_of (slice_get rows i) ≡ Some (fixed_of before)
 fixed_here rows i before h = ap (option_map fixed_of) h

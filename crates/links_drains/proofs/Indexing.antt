@@ -1,11 +1,13 @@
 -- The index remains correct when the table changes.
-use Rattle.links_drains.proofs.Common.{◌≡◌, ◌≢◌, ℕ, zero, suc, Bool, true, false, cond, refl, sym, ◌∙◌, ap, subst, List, [], ◌∷◌, ◌++◌, length, take, ◌+◌, ◌-◌, ◌<◌, ◌≤◌, ◌⊎◌, inl, inr, arith, Some, slice_get, slice_set, ◌==◌, ◌&&◌, option_map_or, cases_eq, cases_lt, ne_eqb, and_left, length-set, length-take, slice_get_within, slice_get_past, Row, slice_get-set, slice_get-set_same, slice_get-push, slice_get-take_below, slice_get-take_above, updated_set, has_count, threshold_in, threshold_of, has_drain_flag, Chained, ChainContinues, HasRoom, HasThresholds, Indexed, IndexedBut, Cleared, Unreached, Forgotten, has, passes_at, is_issued_row, is_open, is_barrier, common_steps}
+use Rattle.links_drains.proofs.Common.{◌≡◌, ◌≢◌, ℕ, zero, suc, Bool, true, false, cond, refl, sym, ◌∙◌, ap, subst, List, [], ◌∷◌, ◌++◌, length, take, ◌+◌, ◌-◌, ◌<◌, ◌≤◌, ◌⊎◌, inl, inr, arith, Some, slice_get, slice_set, ◌==◌, ◌&&◌, option_map_or, cases_eq, cases_lt, ne_eqb, and_left, length-set, length-take, slice_get_within, slice_get_past, Row, slice_get-set, slice_get-set_same, slice_get-push, slice_get-take_below, slice_get-take_above, updated_set, has_count, threshold_in, threshold_of, has_drain_flag, Chained, ChainContinues, HasRoom, HasThresholds, Indexed, IndexedBut, Cleared, Unreached, Forgotten, has, passes_at, is_issued_row, is_open, is_barrier, is_under_way, eq-eqb, list_any, common_steps}
+use Rattle.std.proofs.lemmas.List.Folds.{list_any-append}
+use Rattle.links_drains.specs.Eligible.{drains}
 use Rattle.bit_sets.specs.Thresholds.{never, threshold_at}
 use Rattle.links_drains.specs.declared.index.Index.{Index}
 use Rattle.links_drains.proofs.Chains.{chained-none, chained-take, chained-updated}
 use Rattle.bit_sets.proofs.Bits.{has_past}
 use Rattle.links_drains.proofs.RowsKept.{length-push}
-use Rattle.links_drains.proofs.Units.{any_of_set, any_of_push, any_of_take, any_of_none}
+use Rattle.links_drains.proofs.Units.{any_set, any_of_set, any_of_push, any_of_take, any_of_none}
 
 -- ---- Chains
 
@@ -35,20 +37,33 @@ pub tied : (test : Row → Bool) (rows : List Row) (r : ℕ) (x row : Row) (b : 
     → ((q : ℕ) → q ≢ r → has old q ≡ passes_at test rows q) → ((q : ℕ) → has new q ≡ cond (q == r) b (has old q)) → (q : ℕ) → has new q ≡ passes_at test rows q
 tied = grind arith
 
--- There is room for a threshold, unless it is `never`.
-pub counted_room : (rows : List Row) (index : Index) (r : ℕ) (x row : Row) (n : ℕ) → HasThresholds rows index → x ≡ row → slice_get rows r ≡ Some row → n ≡ threshold_of x → (n ≡ never) ⊎ (r < length index.thresholds)
-counted_room = grind arith
+-- A request without a count has no threshold.
+uncounted_in : (rows : List Row) (r : ℕ) → passes_at has_count rows r ≡ false → threshold_in rows r ≡ never
+uncounted_in = grind arith
 
-pub tied_thresholds : (rows : List Row) (r : ℕ) (x row : Row) (n : ℕ) (old new : List ℕ) → x ≡ row → slice_get rows r ≡ Some row → n ≡ threshold_of x
-    → ((q : ℕ) → q ≢ r → threshold_at old q ≡ threshold_in rows q) → ((q : ℕ) → threshold_at new q ≡ cond (q == r) n (threshold_at old q)) → (q : ℕ) → threshold_at new q ≡ threshold_in rows q
-tied_thresholds = grind arith
+pub thresholds_written : (rows : List Row) (r unit : ℕ) (x row : Row) (index : Index) (new : List ℕ) → IndexedBut r unit rows index → x ≡ row → slice_get rows r ≡ Some row
+    → ((q : ℕ) → threshold_at new q ≡ cond ((q == r) && has_count x) (threshold_of x) (threshold_at index.thresholds q)) → (q : ℕ) → threshold_at new q ≡ threshold_in rows q
+thresholds_written = grind (arith, uncounted_in, cases_eq)
 
-pub updated_index : (rows : List Row) (r : ℕ) (x row : Row) (b : Bool) (old new : Index) → x ≡ row → b ≡ is_barrier rows x.unit → IndexedBut r row.unit rows old
-    → length new.unfinished ≡ length old.unfinished → length new.flagged ≡ length old.flagged → length new.barriers ≡ length old.barriers → length new.issued ≡ length old.issued
-    → length new.thresholds ≡ length old.thresholds
-    → ((q : ℕ) → has new.unfinished q ≡ passes_at is_open rows q) → ((q : ℕ) → has new.flagged q ≡ passes_at has_drain_flag rows q)
-    → ((u : ℕ) → has new.barriers u ≡ cond (u == x.unit) b (has old.barriers u)) → ((q : ℕ) → has new.issued q ≡ passes_at is_issued_row rows q)
-    → ((q : ℕ) → threshold_at new.thresholds q ≡ threshold_in rows q) → Indexed rows new
+pub barriers_written : (rows : List Row) (r unit : ℕ) (b : Bool) (index : Index) (new : List ℕ) → IndexedBut r unit rows index → drains rows unit ≡ true → b ≡ is_under_way rows unit → ((u : ℕ) → has new u ≡ cond (u == unit) b (has index.barriers u)) → (u : ℕ) → has new u ≡ is_barrier rows u
+barriers_written = grind arith
+
+pub barriers_kept : (rows : List Row) (r unit : ℕ) (index : Index) → IndexedBut r unit rows index → drains rows unit ≡ false → (u : ℕ) → has index.barriers u ≡ is_barrier rows u
+barriers_kept rows r unit index i none u = by (cases_eq u unit)
+  where
+    by : (u ≡ unit) ⊎ (u ≢ unit) → has index.barriers u ≡ is_barrier rows u
+    by (inl at) = rw at (i.undrained none ∙ sym (and_left _ _ none))
+    by (inr other) = i.barriers u other
+
+-- The two sets that the rest depends on are correct.
+pub but_written : (rows : List Row) (r unit : ℕ) (index : Index) (unfinished flagged : List ℕ) → IndexedBut r unit rows index → length unfinished ≡ length index.unfinished → length flagged ≡ length index.flagged
+    → ((q : ℕ) → has unfinished q ≡ passes_at is_open rows q) → ((q : ℕ) → has flagged q ≡ passes_at has_drain_flag rows q) → IndexedBut r unit rows (record index { unfinished = unfinished; flagged = flagged })
+but_written = grind arith
+
+pub updated_index : (rows : List Row) (r unit : ℕ) (index : Index) (barriers issued thresholds : List ℕ) → IndexedBut r unit rows index
+    → length barriers ≡ length index.barriers → length issued ≡ length index.issued → length thresholds ≡ length index.thresholds
+    → ((q : ℕ) → has index.unfinished q ≡ passes_at is_open rows q) → ((q : ℕ) → has index.flagged q ≡ passes_at has_drain_flag rows q) → ((u : ℕ) → has barriers u ≡ is_barrier rows u)
+    → ((q : ℕ) → has issued q ≡ passes_at is_issued_row rows q) → ((q : ℕ) → threshold_at thresholds q ≡ threshold_in rows q) → Indexed rows (record index { barriers = barriers; issued = issued; thresholds = thresholds })
 updated_index = grind arith
 
 -- ---- The table changes
@@ -59,9 +74,19 @@ both a b c d h k = cc
 get_other : (rows : List Row) (r q : ℕ) (row : Row) → r < length rows → q ≢ r → slice_get (slice_set rows r row) q ≡ slice_get rows q
 get_other rows r q row h other = slice_get-set rows r q row h ∙ ap (λ b. cond b (Some row) (slice_get rows q)) (ne_eqb r q (λ e. other (sym e)))
 
+passes_set : (test : Row → Bool) (rows : List Row) (r : ℕ) (before row : Row) → slice_get rows r ≡ Some before → test row ≡ test before → (q : ℕ) → passes_at test (slice_set rows r row) q ≡ passes_at test rows q
+passes_set test rows r before row h same q = by (cases_eq q r)
+  where
+    by : (q ≡ r) ⊎ (q ≢ r) → passes_at test (slice_set rows r row) q ≡ passes_at test rows q
+    by (inl at) = rw at (ap (λ o. option_map_or test o false) (slice_get-set_same rows r row (slice_get_within rows r before h)) ∙ same ∙ sym (ap (λ o. option_map_or test o false) h))
+    by (inr other) = ap (λ o. option_map_or test o false) (get_other rows r q row (slice_get_within rows r before h) other)
+
+pub flags_set : (rows : List Row) (index : Index) (r : ℕ) (before row : Row) → Indexed rows index → slice_get rows r ≡ Some before → has_drain_flag row ≡ has_drain_flag before → (q : ℕ) → has index.flagged q ≡ passes_at has_drain_flag (slice_set rows r row) q
+flags_set rows index r before row i h same q = i.flagged q ∙ sym (passes_set has_drain_flag rows r before row h same q)
+
 -- A row is replaced by one of the same chain.
-pub indexed_set : (rows : List Row) (index : Index) (r : ℕ) (before row : Row) → Indexed rows index → slice_get rows r ≡ Some before → row.unit ≡ before.unit → has_count row ≡ has_count before → IndexedBut r row.unit (slice_set rows r row) index
-indexed_set rows index r before row i h same counts = record {
+pub indexed_set : (rows : List Row) (index : Index) (r : ℕ) (before row : Row) → Indexed rows index → slice_get rows r ≡ Some before → row.unit ≡ before.unit → has_count row ≡ has_count before → has_drain_flag row ≡ has_drain_flag before → IndexedBut r row.unit (slice_set rows r row) index
+indexed_set rows index r before row i h same counts flags = record {
   chained = chained_set rows r before row i.chained h same;
   room = subst (λ n. HasRoom n index) (sym (length-set rows r row)) i.room;
   counted = λ q x g e. elim (cases_eq q r) [
@@ -75,13 +100,18 @@ indexed_set rows index r before row i h same counts = record {
   unfinished = λ q other. i.unfinished q ∙ ap (λ o. option_map_or is_open o false) (sym (get_other rows r q row (slice_get_within rows r before h) other));
   flagged = λ q other. i.flagged q ∙ ap (λ o. option_map_or has_drain_flag o false) (sym (get_other rows r q row (slice_get_within rows r before h) other));
   barriers = λ u other. i.barriers u ∙ both _ _ _ _ (sym (any_of_set has_drain_flag rows r u before row h same other)) (sym (any_of_set is_open rows r u before row h same other));
+  undrained = λ none. i.barriers row.unit ∙ and_left _ _ (sym (any_set (λ (x : Row). (x.unit == row.unit) && has_drain_flag x) rows r before row h (both _ _ _ _ (ap (λ n. n == row.unit) same) flags)) ∙ none);
   issued = λ q other. i.issued q ∙ ap (λ o. option_map_or is_issued_row o false) (sym (get_other rows r q row (slice_get_within rows r before h) other));
   thresholds = λ q other. i.thresholds q ∙ ap (λ o. option_map_or threshold_of o never) (sym (get_other rows r q row (slice_get_within rows r before h) other));
+  uncounted = λ none. i.thresholds r ∙ uncounted_in rows r (sym (passes_set has_count rows r before row h counts r) ∙ none);
 }
 
 -- A row is added at the end.
 get_before : (rows : List Row) (row : Row) (q : ℕ) → q ≢ length rows → slice_get (rows ++ row ∷ []) q ≡ slice_get rows q
 get_before rows row q other = slice_get-push rows q row ∙ ap (λ b. cond b (Some row) (slice_get rows q)) (ne_eqb (length rows) q (λ e. other (sym e)))
+
+any_before : (test : Row → Bool) (rows : List Row) (row : Row) → list_any test (rows ++ row ∷ []) ≡ false → list_any test rows ≡ false
+any_before = grind (arith, list_any-append)
 
 pub indexed_push : (rows : List Row) (index : Index) (row : Row) → Indexed rows index → HasRoom (length rows + 1) index → (has_count row ≡ true → length rows < length index.thresholds) → ChainContinues rows row → IndexedBut (length rows) row.unit (rows ++ row ∷ []) index
 indexed_push rows index row i room counts on = record {
@@ -91,8 +121,10 @@ indexed_push rows index row i room counts on = record {
   unfinished = λ q other. i.unfinished q ∙ ap (λ o. option_map_or is_open o false) (sym (get_before rows row q other));
   flagged = λ q other. i.flagged q ∙ ap (λ o. option_map_or has_drain_flag o false) (sym (get_before rows row q other));
   barriers = λ u other. i.barriers u ∙ both _ _ _ _ (sym (any_of_push has_drain_flag rows u row other)) (sym (any_of_push is_open rows u row other));
+  undrained = λ none. i.barriers row.unit ∙ and_left _ _ (any_before _ rows row none);
   issued = λ q other. i.issued q ∙ ap (λ o. option_map_or is_issued_row o false) (sym (get_before rows row q other));
   thresholds = λ q other. i.thresholds q ∙ ap (λ o. option_map_or threshold_of o never) (sym (get_before rows row q other));
+  uncounted = λ none. i.thresholds (length rows) ∙ ap (λ o. option_map_or threshold_of o never) (slice_get_past rows (length rows) (omega arith));
 }
   where
     counted_at : (q : ℕ) (x : Row) → has_count x ≡ true → (slice_get rows q ≡ Some x) ⊎ ((q ≡ length rows) × (row ≡ x)) → q < length index.thresholds
@@ -139,27 +171,21 @@ indexed_none rows old new i f = record {
   thresholds = thresholds_dropped rows 0 old.thresholds new.thresholds i.thresholds f.thresholds;
 }
 
--- The last remaining row.
-pub last_kept : (rows : List Row) (n : ℕ) → 0 < n → n ≤ length rows → (last : Row) × (slice_get rows (n - 1) ≡ Some last) × (slice_get (take n rows) (n - 1) ≡ Some last)
-last_kept rows n some h = let w = element rows (n - 1) (omega (arith, some, h)) in (w.0, w.1, slice_get-take_below rows n (n - 1) (omega (arith, some)) ∙ w.1)
-  where
-    element : (xs : List Row) (i : ℕ) → i < length xs → (x : Row) × (slice_get xs i ≡ Some x)
-    element [] i l = absurd (omega (arith, l))
-    element (x ∷ xs) zero l = (x, refl)
-    element (x ∷ xs) (suc i) l = element xs i (omega (arith, l))
-
-pub indexed_take : (rows : List Row) (old new : Index) (n : ℕ) (last : Row) → Indexed rows old → 0 < n → slice_get rows (n - 1) ≡ Some last → Forgotten n (length rows) old new → IndexedBut (n - 1) last.unit (take n rows) new
-indexed_take rows old new n last i some h f = record {
+pub indexed_take : (rows : List Row) (old new : Index) (n : ℕ) (last : Row) → Indexed rows old → 0 < n → slice_get rows (n - 1) ≡ Some last → Forgotten n (length rows) old new
+    → (barriers : List ℕ) → length barriers ≡ length new.barriers → ((u : ℕ) → has barriers u ≡ cond (u == last.unit) false (has new.barriers u)) → IndexedBut (n - 1) last.unit (take n rows) (record new { barriers = barriers })
+indexed_take rows old new n last i some h f barriers len cleared = record {
   chained = chained-take rows n i.chained;
   room = let t = length-take n rows in let a = i.room.unfinished in let b = i.room.flagged in let d = i.room.barriers in let e = i.room.issued in let x = f.unfinished.len in let y = f.flagged.len in let z = f.barriers.len in let w = f.issued.len in
-      record { unfinished = omega (arith, t, a, x); flagged = omega (arith, t, b, y); barriers = omega (arith, t, d, z); issued = omega (arith, t, e, w) };
+      record { unfinished = omega (arith, t, a, x); flagged = omega (arith, t, b, y); barriers = omega (arith, t, d, z, len); issued = omega (arith, t, e, w) };
   counted = λ q x g c. let k = kept_row rows n q x g in let l = i.counted q x k.1 c in let u = f.thresholds.len in omega (arith, l, u);
   unfinished = λ q other. tie_dropped is_open rows n old.unfinished new.unfinished i.unfinished f.unfinished q;
   flagged = λ q other. tie_dropped has_drain_flag rows n old.flagged new.flagged i.flagged f.flagged q;
-  barriers = λ u other. barrier_dropped rows n u old.barriers new.barriers i.chained i.barriers f.barriers
+  barriers = λ u other. cleared u ∙ ap (λ b. cond b false (has new.barriers u)) (ne_eqb u last.unit other) ∙ barrier_dropped rows n u old.barriers new.barriers i.chained i.barriers f.barriers
       (λ less r x past g e. other (sym e ∙ sym (i.chained.run (n - 1) r last x h g (omega (arith, past)) (omega (arith, e, less)))));
+  undrained = λ none. cleared last.unit ∙ ap (λ b. cond b false (has new.barriers last.unit)) (eq-eqb last.unit last.unit refl);
   issued = λ q other. tie_dropped is_issued_row rows n old.issued new.issued i.issued f.issued q;
   thresholds = λ q other. thresholds_dropped rows n old.thresholds new.thresholds i.thresholds f.thresholds q;
+  uncounted = λ none. thresholds_dropped rows n old.thresholds new.thresholds i.thresholds f.thresholds (n - 1) ∙ uncounted_in (take n rows) (n - 1) none;
 }
 
 -- An index with empty sets is that of an empty table.
@@ -167,12 +193,17 @@ pub indexed_empty : (index : Index) → index.unfinished ≡ [] → index.flagge
 indexed_empty = grind (arith, has_past)
 
 -- The rows after some were dropped from the end.
-pub indexed_left : (rows left : List Row) (old new : Index) (n k : ℕ) → Indexed rows old → length rows ≡ n → left ≡ take k rows → k ≤ n → 0 < k → Forgotten k n old new
-    → (row : Row) × (slice_get left (k - 1) ≡ Some row) × IndexedBut (k - 1) row.unit left new
-indexed_left rows left old new n k i len is within some f =
-    let last = last_kept rows k some (omega (arith, len, within)) in
+pub flags_left : (rows left : List Row) (old new : Index) (n k : ℕ) → Indexed rows old → length rows ≡ n → left ≡ take k rows → Forgotten k n old new → (q : ℕ) → has new.flagged q ≡ passes_at has_drain_flag left q
+flags_left rows left old new n k i len is f =
     let g : Forgotten k (length rows) old new = rw len f in
-    rw is (last.0, last.2, indexed_take rows old new k last.0 i some last.1 g)
+    rw is (tie_dropped has_drain_flag rows k old.flagged new.flagged i.flagged g.flagged)
+
+pub indexed_left : (rows left : List Row) (old new : Index) (n k : ℕ) (last : Row) → Indexed rows old → length rows ≡ n → left ≡ take k rows → k ≤ n → 0 < k → slice_get left (k - 1) ≡ Some last → Forgotten k n old new
+    → (barriers : List ℕ) → length barriers ≡ length new.barriers → ((u : ℕ) → has barriers u ≡ cond (u == last.unit) false (has new.barriers u)) → IndexedBut (k - 1) last.unit left (record new { barriers = barriers })
+indexed_left rows left old new n k last i len is within some there f barriers size cleared =
+    let g : Forgotten k (length rows) old new = rw len f in
+    let h : slice_get rows (k - 1) ≡ Some last = (kept_row rows k (k - 1) last (ap (λ (rs : List Row). slice_get rs (k - 1)) (sym is) ∙ there)).1 in
+    rw is (indexed_take rows old new k last i some h g barriers size cleared)
 
 pub indexed_none_left : (rows left : List Row) (old new : Index) (n : ℕ) → Indexed rows old → length rows ≡ n → length left ≡ 0 → Forgotten 0 n old new → Indexed left new
 indexed_none_left = grind (arith, common_steps, indexed_none)

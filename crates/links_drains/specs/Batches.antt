@@ -1,5 +1,5 @@
 -- How a batch of submitted entries becomes requests (io_uring_enter(2)).
-use Rattle.std.specs.Prelude.{ℕ, zero, suc, ℤ, ◌+◌, ◌-◌, ◌==◌, Bool, false, not, ◌&&◌, if◌then◌else◌, Option, Some, None, is_none, is_some, slice_get, List, take}
+use Rattle.std.specs.Prelude.{◌≡◌, ℕ, zero, suc, ℤ, ◌+◌, ◌-◌, ◌==◌, Bool, false, not, ◌&&◌, if◌then◌else◌, Option, Some, None, is_none, is_some, slice_get, List, drop, take}
 use Rattle.std.specs.Option.{option_and_then, option_map_or}
 use Rattle.std.specs.Result.{result_err}
 use Rattle.std.specs.List.{prefix_len, list_any}
@@ -97,3 +97,14 @@ direct_result w entries i =
 abbrev pub direct_of : WorldState → ℕ → List Sqe → List Ending
 direct_of w first entries =
     endings_from (λ r row. direct_result w entries (r - first)) first (rows_of w first entries)
+
+-- ---- The list of errors. Public contracts don't use it.
+
+-- The error of entry i, if it fails. The list ends with the last entry that fails.
+abbrev pub error_in : List (Option ℤ) → ℕ → Option ℤ
+error_in errors i = option_and_then (λ (error : Option ℤ). error) (slice_get errors i)
+
+-- The rows end with the requests of the entries, and the errors are those of the entries.
+pub record Submitted (w : WorldState) (entries : List Sqe) (first : ℕ) (rows : List Row) (errors : List (Option ℤ)) : Type 0 where
+  pub batch : drop first rows ≡ rows_of w first entries
+  pub each : (i : ℕ) → error_in errors i ≡ error_at w entries i

@@ -2,6 +2,7 @@
 use Rattle.std.specs.Prelude.{◌≡◌, ◌≢◌, ℕ, ◌*◌, ◌≤◌, ◌<◌, true, false, Some, List, length, slice_get}
 use Rattle.entries.specs.declared.row.Row.{Row}
 use Rattle.links_drains.specs.Counts.{has_count, threshold_in}
+use Rattle.links_drains.specs.Eligible.{drains}
 use Rattle.links_drains.specs.Links.{has_drain_flag, Chained}
 use Rattle.bit_sets.specs.Sets.{has}
 use Rattle.bit_sets.specs.Thresholds.{never, threshold_at}
@@ -32,7 +33,8 @@ pub record Indexed (rows : List Row) (index : Index) : Type 0 where
   pub issued : (r : ℕ) → has index.issued r ≡ passes_at is_issued_row rows r
   pub thresholds : (r : ℕ) → threshold_at index.thresholds r ≡ threshold_in rows r
 
--- The index is correct but for request r and the chain `unit`.
+-- The index is correct but for request r and the chain `unit`. If the request has no count, its
+-- threshold is correct, and if the chain doesn't drain, its barrier is.
 pub record IndexedBut (r unit : ℕ) (rows : List Row) (index : Index) : Type 0 where
   pub chained : Chained rows
   pub room : HasRoom (length rows) index
@@ -40,8 +42,10 @@ pub record IndexedBut (r unit : ℕ) (rows : List Row) (index : Index) : Type 0 
   pub unfinished : (q : ℕ) → q ≢ r → has index.unfinished q ≡ passes_at is_open rows q
   pub flagged : (q : ℕ) → q ≢ r → has index.flagged q ≡ passes_at has_drain_flag rows q
   pub barriers : (u : ℕ) → u ≢ unit → has index.barriers u ≡ is_barrier rows u
+  pub undrained : drains rows unit ≡ false → has index.barriers unit ≡ false
   pub issued : (q : ℕ) → q ≢ r → has index.issued q ≡ passes_at is_issued_row rows q
   pub thresholds : (q : ℕ) → q ≢ r → threshold_at index.thresholds q ≡ threshold_in rows q
+  pub uncounted : passes_at has_count rows r ≡ false → threshold_at index.thresholds r ≡ never
 
 -- The numbers in a range were removed from a set.
 pub record Cleared (from to : ℕ) (old new : List ℕ) : Type 0 where

@@ -1,13 +1,13 @@
 //! An index of the request table: which requests may be issued, and which TIMEOUTs have
 //! reached their count, without a scan of all requests.
-ghost use Rattle.std.specs.Prelude.{◌≡◌, ℕ, ◌+◌, ◌-◌, ◌^◌, ◌<◌, ◌≤◌, List, [], true, Some, IfOk, IfSome, IfNone, OnOk, MatchBool, length, slice_get, take};
+ghost use Rattle.std.specs.Prelude.{◌≡◌, ℕ, ◌+◌, ◌-◌, ◌^◌, ◌<◌, ◌≤◌, ◌==◌, ◌&&◌, List, [], true, Some, IfOk, IfSome, IfNone, OnOk, MatchBool, if◌then◌else◌, length, slice_get, take};
 ghost use Rattle.entries.specs.declared.row.Row.{Row};
-ghost use Rattle.links_drains.specs.Counts.{has_count as has_count_of};
+ghost use Rattle.links_drains.specs.Counts.{has_count as has_count_of, threshold_of as threshold_in_row};
 ghost use Rattle.links_drains.specs.Eligible.{is_eligible, GuardsFollow};
 ghost use Rattle.links_drains.specs.Links.{has_drain_flag as has_drain, Chained};
 ghost use Rattle.bit_sets.specs.Sets.{has, IsNext, NoneFrom};
-ghost use Rattle.bit_sets.specs.Thresholds.{IsNextReached, NoneReachedFrom};
-ghost use Rattle.links_drains.specs.Units.{passes_at, is_open, is_barrier as is_barrier_of, HasRowOf, HasNoRowOf};
+ghost use Rattle.bit_sets.specs.Thresholds.{threshold_at, IsNextReached, NoneReachedFrom};
+ghost use Rattle.links_drains.specs.Units.{passes_at, is_open, HasRowOf, HasNoRowOf};
 
 mod queued;
 
@@ -72,10 +72,9 @@ impl Index {
         Ok(())
     }
 
-    /// Updates the index for request r, which is new, has changed within its chain, or is now the
-    /// last.
+    /// Enters request r, which is new.
     #[inline(always)]
-    pub(crate) fn update(&mut self, rows: &Rows, r: usize)
+    pub(crate) fn enter(&mut self, rows: &Rows, r: usize)
         requires { (row : Row) × (slice_get rows.now r ≡ Some row)
             × IndexedBut r row.unit rows.now self.old }
         ensures { Indexed rows.now self.new }
@@ -83,10 +82,38 @@ impl Index {
         let row = &rows[r];
         self.unfinished.write(r, is_unfinished(row));
         self.flagged.write(r, has_drain_flag(row));
-        let blocks = is_barrier(&self.flagged, &self.unfinished, rows, row.unit);
-        self.barriers.write(row.unit as usize, blocks);
+        self.update(rows, r);
+    }
+
+    /// Updates the index for request r, whose phase has changed.
+    #[inline(always)]
+    pub(crate) fn change(&mut self, rows: &Rows, r: usize)
+        requires but { (row : Row) × (slice_get rows.now r ≡ Some row)
+            × IndexedBut r row.unit rows.now self.old }
+        requires flagged { (q : ℕ) → has self.old.flagged q ≡ passes_at has_drain rows.now q }
+        ensures { Indexed rows.now self.new }
+    {
+        self.unfinished.write(r, is_unfinished(&rows[r]));
+        self.update(rows, r);
+    }
+
+    // Updates the other sets and the threshold for request r. Writes no threshold without a count,
+    // and no barrier if the chain does not drain.
+    #[inline(always)]
+    fn update(&mut self, rows: &Rows, r: usize)
+        requires but { (row : Row) × (slice_get rows.now r ≡ Some row)
+            × IndexedBut r row.unit rows.now self.old }
+        requires unfinished { (q : ℕ) → has self.old.unfinished q ≡ passes_at is_open rows.now q }
+        requires flagged { (q : ℕ) → has self.old.flagged q ≡ passes_at has_drain rows.now q }
+        ensures { Indexed rows.now self.new }
+    {
+        let row = &rows[r];
         self.issued.write(r, is_issued(row));
-        self.thresholds.write(r, threshold_of(row));
+        write_threshold(&mut self.thresholds, r, row);
+        if has_row_of(&self.flagged, rows, row.unit) {
+            let blocks = has_row_of(&self.unfinished, rows, row.unit);
+            self.barriers.write(row.unit as usize, blocks);
+        }
     }
 
     /// Drops the requests after those that are left, up to number n, in time linear in how many
@@ -100,7 +127,9 @@ impl Index {
         let left = rows.len();
         self.forget(left, n);
         if left > 0 {
-            self.update(rows, left - 1);
+            // Perhaps no request is left that made the last chain drain.
+            self.barriers.write(rows[left - 1].unit as usize, false);
+            self.change(rows, left - 1);
         }
     }
 
@@ -180,17 +209,16 @@ impl Index {
     }
 }
 
-// Whether the chain drains and has an unfinished request.
-fn is_barrier(flagged: &BitSet, unfinished: &BitSet, rows: &Rows, unit: u32) -> bool
-    requires chained { Chained rows.now }
-    requires flagged { (r : ℕ) → has flagged.now r ≡ passes_at has_drain rows.now r }
-    requires unfinished { (r : ℕ) → has unfinished.now r ≡ passes_at is_open rows.now r }
-    ensures { result ≡ is_barrier_of rows.now unit }
+// Writes the threshold of request r, if it waits for a count.
+fn write_threshold(thresholds: &mut Thresholds, r: usize, row: &Row)
+    requires { has_count_of row.now ≡ true → r < length thresholds.old }
+    ensures len { length thresholds.new ≡ length thresholds.old }
+    ensures at { (q : ℕ) → threshold_at thresholds.new q
+        ≡ (if (q == r) && has_count_of row.now then threshold_in_row row.now
+        else threshold_at thresholds.old q) }
 {
-    if has_row_of(flagged, rows, unit) {
-        has_row_of(unfinished, rows, unit)
-    } else {
-        false
+    if has_count(row) {
+        thresholds.write(r, threshold_of(row));
     }
 }
 

@@ -151,7 +151,8 @@ impl Table {
     }
 
     pub(crate) fn rows(&self) -> &Rows
-        ensures { result.now ≡ self.now }
+        ensures rows { result.now ≡ self.now }
+        ensures few { length self.now ≤ 65536 }
     {
         &self.rows
     }
@@ -261,7 +262,7 @@ impl Table {
         notes.note_row(r as u32, None)?;
         self.rows.push(row)?;
         count(&mut self.held, &row);
-        self.index.update(&self.rows, r);
+        self.index.enter(&self.rows, r);
         self.finder.add(r, &row);
         Ok(())
     }
@@ -337,7 +338,7 @@ impl Table {
         take_off(&mut self.held, &self.rows[r]);
         count(&mut self.held, &after);
         self.rows.set(r, after);
-        self.index.update(&self.rows, r);
+        self.index.change(&self.rows, r);
         self.finder.mark(r, &after);
     }
 

@@ -17,9 +17,9 @@ pub after_is : (w : WorldState) (row : Row) (fd : ℕ) (d : DescriptorState) (op
 after_is w row fd d op stock k held there opcode holds =
     let here = descriptor_is w row fd d held there in
     ap (λ x. option_map_or (λ f. option_map_or (λ (e : DescriptorState). done_by row.entry (op_of row.entry.opcode) (stock_of w e.object) f e k w) (descriptor_of w f) w) x w) held
-        ∙ ap (λ x. option_map_or (λ (e : DescriptorState). done_by row.entry (op_of row.entry.opcode) (stock_of w e.object) fd e k w) x w) here
-        ∙ ap (λ o. done_by row.entry o (stock_of w d.object) fd d k w) opcode
-        ∙ ap (λ s. done_by row.entry (Some op) s fd d k w) holds
+    ∙ ap (λ x. option_map_or (λ (e : DescriptorState). done_by row.entry (op_of row.entry.opcode) (stock_of w e.object) fd e k w) x w) here
+    ∙ ap (λ o. done_by row.entry o (stock_of w d.object) fd d k w) opcode
+    ∙ ap (λ s. done_by row.entry (Some op) s fd d k w) holds
 
 counts : (o : Outcome) (k : ℕ) (res : ℤ) → Some k ≡ count_in o → o ≡ Res res → pos k ≡ res
 counts = grind arith

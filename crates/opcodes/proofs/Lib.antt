@@ -5,3 +5,4 @@ pub mod Staying
 pub mod Counting
 pub mod Moving
 pub mod Deciding
+pub mod Timing

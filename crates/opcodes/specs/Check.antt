@@ -1,6 +1,6 @@
 -- The checks of an entry at submission (io_uring_enter(2)): first its flags, then its opcode, then
 -- what the opcode requires. The first check that fails determines the error.
-use Rattle.std.specs.Prelude.{ℕ, ℤ, negsuc, ◌+◌, ◌*◌, ◌^◌, ◌==◌, Bool, false, not, ◌&&◌, nat_lt, nat_le, Option, Some, None, is_ok, is_some, Result, Ok, Err, if◌then◌else◌, bit_and}
+use Rattle.std.specs.Prelude.{ℕ, ℤ, negsuc, ◌+◌, ◌*◌, ◌^◌, ◌==◌, Bool, true, false, not, ◌&&◌, nat_lt, nat_le, Option, Some, None, is_ok, is_some, Result, Ok, Err, if◌then◌else◌, bit_and}
 use Rattle.entries.specs.declared.entry.Sqe.{Sqe}
 use Rattle.model_files.specs.Worlds.{WorldState, number_at}
 use Rattle.opcodes.specs.declared.op.Op.{Op}
@@ -36,6 +36,12 @@ op_of opcode =
     None
 
 -- ---- Times
+
+-- Whether an opcode has a time.
+abbrev pub has_time : Op → Bool
+has_time Timeout = true
+has_time LinkTimeout = true
+has_time _ = false
 
 -- The time at an address, in nanoseconds. It is stored as two signed 64-bit numbers, seconds and
 -- nanoseconds (timespec(3)). There is none if one of them is negative.

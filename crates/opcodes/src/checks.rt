@@ -1,8 +1,8 @@
 //! The checks of an entry at submission.
-ghost use Rattle.std.specs.Prelude.{◌≡◌, ◌+◌, ◌≤◌};
-ghost use Rattle.opcodes.specs.Check.{can_guard, check_of, tested, timed, time_at, time_of};
+ghost use Rattle.std.specs.Prelude.{◌≡◌, ◌+◌, ◌≤◌, ◌&&◌, is_ok, if◌then◌else◌};
+ghost use Rattle.opcodes.specs.Check.{can_guard, check_of, has_time, tested, timed, time_at, time_of};
 
-use crate::op::{Op, is_timer};
+use crate::op::Op;
 use entries::{EFAULT, EINVAL, IOSQE_ASYNC, IOSQE_IO_DRAIN, IOSQE_IO_HARDLINK, IOSQE_IO_LINK, Sqe};
 use model_files::World;
 
@@ -27,13 +27,7 @@ pub struct Context<'a> {
 pub fn check(entry: &Sqe, context: Context) -> Result<Op, i32>
     ensures { result ≡ check_of context.entry.world.now context.entry.previous entry.now }
 {
-    if entry.flags & !ALLOWED_FLAGS != 0 {
-        return Err(-EINVAL);
-    }
-    match Op::from_opcode(entry.opcode) {
-        Some(op) => test(entry, context, op),
-        None => Err(-EINVAL),
-    }
+    check_timed(entry, context).0
 }
 
 /// Returns the time of a TIMEOUT or LINK_TIMEOUT in nanoseconds; `None` for another opcode, or if a
@@ -41,18 +35,29 @@ pub fn check(entry: &Sqe, context: Context) -> Result<Op, i32>
 pub fn time_of(entry: &Sqe, context: Context) -> Option<u128>
     ensures { result ≡ time_of context.entry.world.now context.entry.previous entry.now }
 {
-    if !is_timer(entry.opcode) {
-        return None;
+    check_timed(entry, context).1
+}
+
+/// Returns the results of `check` and `time_of`, and reads the time once.
+#[tactic(auto, using(crate::proofs::Timing::has_time_is))]
+pub fn check_timed(entry: &Sqe, context: Context) -> (Result<Op, i32>, Option<u128>)
+    ensures op { result.0 ≡ check_of context.entry.world.now context.entry.previous entry.now }
+    ensures time { result.1 ≡ time_of context.entry.world.now context.entry.previous entry.now }
+{
+    if entry.flags & !ALLOWED_FLAGS != 0 {
+        return (Err(-EINVAL), None);
     }
-    match check(entry, context) {
-        Ok(_) => time_at(context.world, entry.addr as u32),
-        Err(_) => None,
+    match Op::from_opcode(entry.opcode) {
+        Some(op) => test(entry, context, op),
+        None => (Err(-EINVAL), None),
     }
 }
 
-// Checks what the opcode requires.
-fn test(entry: &Sqe, context: Context, op: Op) -> Result<Op, i32>
-    ensures { result ≡ tested context.entry.world.now context.entry.previous entry.now op }
+// Checks what the opcode requires, and reads its time if it has one.
+fn test(entry: &Sqe, context: Context, op: Op) -> (Result<Op, i32>, Option<u128>)
+    ensures op { result.0 ≡ tested context.entry.world.now context.entry.previous entry.now op }
+    ensures time { result.1 ≡ (if has_time op && is_ok result.0
+        then time_at context.entry.world.now entry.now.addr else None) }
 {
     let passes = match op {
         Op::Nop => true,
@@ -67,22 +72,28 @@ fn test(entry: &Sqe, context: Context, op: Op) -> Result<Op, i32>
         }
         Op::LinkTimeout => false,
     };
-    if passes { Ok(op) } else { Err(-EINVAL) }
+    if passes {
+        (Ok(op), None)
+    } else {
+        (Err(-EINVAL), None)
+    }
 }
 
 // Checks a TIMEOUT or LINK_TIMEOUT.
-fn test_time(entry: &Sqe, world: &World, op: Op) -> Result<Op, i32>
-    ensures { result ≡ timed world.now entry.now op }
+fn test_time(entry: &Sqe, world: &World, op: Op) -> (Result<Op, i32>, Option<u128>)
+    ensures op { result.0 ≡ timed world.now entry.now op }
+    ensures time { result.1
+        ≡ (if is_ok result.0 then time_at world.now entry.now.addr else None) }
 {
     if entry.len != 1 || entry.operation_flags > 1 {
-        return Err(-EINVAL);
+        return (Err(-EINVAL), None);
     }
     if entry.addr > 65520 {
-        return Err(-EFAULT);
+        return (Err(-EFAULT), None);
     }
     match time_at(world, entry.addr as u32) {
-        Some(_) => Ok(op),
-        None => Err(-EINVAL),
+        Some(time) => (Ok(op), Some(time)),
+        None => (Err(-EINVAL), None),
     }
 }
 

@@ -9,8 +9,8 @@ use Rattle.links_drains.proofs.table.Table.push.Goals as goal
 pub count-requires : goal.count-requires
 count-requires c = room _ _ c.self.invariant.tallied
 
-pub update-requires : goal.update-requires
-update-requires c =
+pub enter-requires : goal.enter-requires
+enter-requires c =
     let on = rw (← c.self.view_is) at c.requires.continues in
     rw (c.in_ok-push.ensures.ok, c.len-r.ensures) (c.args.row, get-pushed c.self.inside.rows c.args.row, indexed_push c.self.inside.rows c.make_room.new.self c.args.row c.in_ok-make_room.ensures.indexed c.in_ok-make_room.ensures.ok c.in_ok-make_room.ensures.counted on)
 
@@ -27,7 +27,7 @@ invariant_of-self-2 c =
     let few = rw (← c.self.view_is) at c.requires.room in
     rw c.in_ok-push.ensures.ok (record {
       tallied = tallied_push _ _ _ _ c.self.invariant.tallied few c.count.ensures;
-      indexed = rw c.in_ok-push.ensures.ok at c.update.ensures;
+      indexed = rw c.in_ok-push.ensures.ok at c.enter.ensures;
       findable = c.add.ensures c.self.inside.rows (sym c.len-r.ensures) c.in_ok-make_room-2.ensures.findable;
     })
 

@@ -1,7 +1,7 @@
 use Rattle.links_drains.proofs.Common.{refl, length, arith, slice_get_read, slice_get-set_same}
 use Rattle.links_drains.proofs.Finding.{findable_set, place_at}
-use Rattle.links_drains.proofs.Fixed.{fixed_at, fixed_within, same_count, same_unit}
-use Rattle.links_drains.proofs.Indexing.{indexed_set}
+use Rattle.links_drains.proofs.Fixed.{fixed_at, fixed_within, same_count, same_drain, same_unit}
+use Rattle.links_drains.proofs.Indexing.{flags_set, indexed_set}
 use Rattle.links_drains.proofs.Tallying.{room_less, counts_row, tallied_set}
 use Rattle.links_drains.proofs.table.Table.set.Goals as goal
 
@@ -19,16 +19,22 @@ take_off-requires c =
 pub count-requires : goal.count-requires
 count-requires c = room_less c.self.inside.rows c.self.inside.held c.take_off.new.held c.index.result.now c.self.invariant.tallied c.take_off.ensures
 
-pub update-requires : goal.update-requires
-update-requires c =
+pub change-requires-clause-but : goal.change-requires-clause-but
+change-requires-clause-but c =
     let fixed = rw (← c.self.view_is) at c.requires in
     let within = fixed_within c.self.inside.rows c.args.r c.args.after fixed in
     let f = fixed_at c.self.inside.rows c.args.r c.args.after fixed in
     rw c.set.ensures (
       c.args.after,
       slice_get-set_same c.self.inside.rows c.args.r c.args.after within,
-      indexed_set c.self.inside.rows c.self.inside.index c.args.r f.before c.args.after c.self.invariant.indexed f.there (same_unit c.args.after f.before f.same) (same_count c.args.after f.before f.same),
+      indexed_set c.self.inside.rows c.self.inside.index c.args.r f.before c.args.after c.self.invariant.indexed f.there (same_unit c.args.after f.before f.same) (same_count c.args.after f.before f.same) (same_drain c.args.after f.before f.same),
     )
+
+pub change-requires-clause-flagged : goal.change-requires-clause-flagged
+change-requires-clause-flagged c =
+    let fixed = rw (← c.self.view_is) at c.requires in
+    let f = fixed_at c.self.inside.rows c.args.r c.args.after fixed in
+    rw c.set.ensures (flags_set c.self.inside.rows c.self.inside.index c.args.r f.before c.args.after c.self.invariant.indexed f.there (same_drain c.args.after f.before f.same))
 
 pub mark-requires-clause-few : goal.mark-requires-clause-few
 mark-requires-clause-few c =
@@ -49,6 +55,6 @@ invariant_of-self c =
     rw c.set.ensures (record {
       tallied = tallied_set c.self.inside.rows c.self.inside.held c.take_off.new.held c.count.new.held c.args.r c.index.result.now c.args.after c.self.invariant.tallied
           (slice_get_read c.self.inside.rows (length c.self.inside.rows) c.args.r c.index.result.now refl within c.index.ensures) c.take_off.ensures c.count.ensures;
-      indexed = rw c.set.ensures at c.update.ensures;
+      indexed = rw c.set.ensures at c.change.ensures;
       findable = let f = fixed_at c.self.inside.rows c.args.r c.args.after fixed in findable_set c.self.inside.rows c.args.r f.before c.args.after c.self.inside.finder c.mark.new.self c.self.invariant.findable f.there f.same c.mark.ensures;
     })
