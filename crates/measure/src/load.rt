@@ -47,6 +47,7 @@ pub fn fill(draft: &mut Draft, Plan { word, size }: Plan) -> Result<(), AllocErr
         Word::Distinct => distinct(draft, size),
         Word::Shared => shared(draft, size),
         Word::Held => held(draft, size),
+        Word::Released => released(draft, size),
         Word::Counts => two_slots(draft, &[nop, entry(Op::Timeout, 1, FAR)], ENDED, size, &[]),
         Word::Meets => meets(draft, size),
         Word::Cascade => two_slots(draft, &[cancel_all, entry(Op::Timeout, 1, 0)], 1, size, &[]),
@@ -151,20 +152,42 @@ fn shared(draft: &mut Draft, rows: u32) -> Filled {
 
 // Each cancel finds the last READ by its descriptor. All others hold another descriptor.
 fn held(draft: &mut Draft, rows: u32) -> Filled {
-    let page = vec![in draft.alloc; 1u8; 4096]?;
-    open(draft, Contents::File(Items::from_vec(page)), 2)?;
-    let read = entry(Op::Read, 1, 0);
-    let (mut cancel, mut cancelled) = (entry(Op::AsyncCancel, 0, 0), read);
-    cancel.operation_flags = IORING_ASYNC_CANCEL_FD;
-    cancel.fd = 4;
-    cancelled.fd = 4;
+    let (cancel, cancelled) = by_descriptor(draft)?;
+    let mut other = cancelled;
+    other.fd = 4;
     two_slots(
         draft,
-        &[cancel, read, cancelled],
+        &[cancel, other, cancelled],
         ENDED,
         rows.saturating_sub(1),
         &[2],
     )
+}
+
+// The same, but the other READs held the same descriptor, and have completed.
+fn released(draft: &mut Draft, rows: u32) -> Filled {
+    let (cancel, read) = by_descriptor(draft)?;
+    let mut slots = vec![in draft.alloc; 0u32; ENDED as usize]?;
+    for _row in 1..rows {
+        slots.push(2)?;
+    }
+    slots.push(1)?;
+    submit(draft, &[cancel, read, read], &slots)?;
+    for (row, slot) in (0..FULL).zip(&slots) {
+        if *slot == 2 {
+            draft.end_row(row)?;
+        }
+    }
+    finish(draft, &slots, 2)
+}
+
+// Sets up a file with descriptors 3 and 4. Returns a cancel by descriptor 3, and a READ of it.
+fn by_descriptor(draft: &mut Draft) -> Result<(Sqe, Sqe), AllocError> {
+    let page = vec![in draft.alloc; 1u8; 4096]?;
+    open(draft, Contents::File(Items::from_vec(page)), 2)?;
+    let mut cancel = entry(Op::AsyncCancel, 0, 0);
+    cancel.operation_flags = IORING_ASYNC_CANCEL_FD;
+    Ok((cancel, entry(Op::Read, 1, 0)))
 }
 
 // Each NOP completes one TIMEOUT: one TIMEOUT waits for one completion, one for two, and so on.

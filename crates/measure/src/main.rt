@@ -37,7 +37,8 @@ fn go(walker: &mut Walker, moment: usize) -> io::Result<()> {
     }
 }
 
-// Returns the time of a jump to a moment, in microseconds.
+// Returns the time of a jump to a moment, in microseconds. `bench/steps` counts its instructions.
+#[inline(never)]
 fn timed(rt: &impl Clock, walker: &mut Walker, moment: usize) -> io::Result<u128> {
     let start = Instant::now(rt)?;
     go(walker, moment)?;

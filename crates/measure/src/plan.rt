@@ -2,7 +2,7 @@
 
 /// The usage message. A number in parentheses is the maximum of N.
 pub const WORDS: &str =
-    "measure full N (1048576 at most) | nops N | transfers N | issues N | polls N | links N | drains N | cancels N | distinct N | shared N | held N | counts N | meets N | cascade N | met N | severed N (65334)";
+    "measure full N (1048576 at most) | nops N | transfers N | issues N | polls N | links N | drains N | cancels N | distinct N | shared N | held N | released N | counts N | meets N | cascade N | met N | severed N (65334)";
 
 /// The maximum number of events in a trace.
 const MOST_EVENTS: u32 = 1048576;
@@ -37,6 +37,8 @@ pub enum Word {
     Shared,
     /// 100 cancels by descriptor with N issued requests. Each finds the last, which is running.
     Held,
+    /// The same, but the other requests held the same descriptor, and have completed.
+    Released,
     /// 100 NOPs that complete while N TIMEOUTs wait for a number of completions that isn't reached.
     Counts,
     /// The same, but each NOP completes one TIMEOUT.
@@ -66,7 +68,7 @@ impl Plan {
             Word::Nops | Word::Transfers => Some((self.size as usize, 1)),
             Word::Cascade | Word::Met | Word::Severed => Some((1, 20)),
             Word::Cancels | Word::Distinct | Word::Shared | Word::Held => Some((100, 200)),
-            Word::Counts | Word::Meets => Some((100, 200)),
+            Word::Released | Word::Counts | Word::Meets => Some((100, 200)),
             _ => Some((200, 200)),
         }
     }
@@ -85,6 +87,7 @@ fn word_of(name: &str) -> Option<Word> {
         "distinct" => Word::Distinct,
         "shared" => Word::Shared,
         "held" => Word::Held,
+        "released" => Word::Released,
         "counts" => Word::Counts,
         "meets" => Word::Meets,
         "cascade" => Word::Cascade,
