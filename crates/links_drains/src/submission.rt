@@ -104,8 +104,8 @@ impl Table {
         })
     }
 
-    // Checks each entry, and adds its request. Returns how many became requests, whether the last of
-    // them failed and stopped the submission, and the errors up to the last entry that fails.
+    // Checks each entry, and adds its request. Returns how many became requests, whether the last
+    // of them failed and stopped the submission, and the errors up to the last entry that fails.
     fn add_rows(
         &mut self,
         entries: &[Sqe],
