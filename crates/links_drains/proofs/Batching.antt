@@ -1,5 +1,5 @@
 -- Lemmas about the first entries of a batch, as requests are added one by one.
-use Rattle.links_drains.proofs.Common.{◌≡◌, ◌≢◌, ℕ, ℤ, zero, suc, Bool, true, false, not, cond, refl, sym, ◌∙◌, ap, List, [], ◌∷◌, ◌++◌, take, length, ◌<◌, ◌≤◌, ◌+◌, ◌⊎◌, inl, inr, append_assoc, length-append, map, subst, arith, Option, Some, None, option_map, is_none, is_some, slice_get, option_map_or, prefix_len, list_any, enumerate_from, common_steps, length-take-le, take_all, gets, slice_get-map, slice_get_past, slice_get_within, slice_get-take_below, slice_get-take_above, same_list, cases_lt, cases_eq, eq-eqb, ne_eqb, ◌==◌, option_and_then, ◌&&◌, ◌-◌, Sqe, Row, Keeps, named, keeps_then, WorldState, previous_in, chain_of, error_at, error_of, errors_of, row_of, rows_of, target_of, up_to_failure, taken_of, halts, shown_on, error_in, is_linked, ChainContinues, table_owns, table_seen, new_row}
+use Rattle.links_drains.proofs.Common.{◌≡◌, ◌≢◌, ℕ, ℤ, zero, suc, Bool, true, false, not, cond, refl, sym, ◌∙◌, ap, List, [], ◌∷◌, ◌++◌, take, length, ◌<◌, ◌≤◌, ◌+◌, ◌⊎◌, inl, inr, append_assoc, length-append, map, subst, arith, Option, Some, None, option_map, is_none, is_some, slice_get, option_map_or, prefix_len, enumerate_from, common_steps, length-take-le, take_all, gets, slice_get-map, slice_get_past, slice_get_within, get_or, get_or_from_slice_get, slice_get-take_below, slice_get-take_above, same_list, cases_lt, cases_eq, eq-eqb, ne_eqb, ◌==◌, option_and_then, ◌&&◌, ◌-◌, Sqe, Row, Keeps, named, keeps_then, WorldState, previous_in, chain_of, error_at, error_of, errors_of, row_of, rows_of, target_of, taken_of, halts, shown_on, error_in, is_linked, ChainContinues, table_owns, table_seen, new_row}
 use Rattle.std.proofs.lemmas.List.FromFn.{length-enumerate_from}
 use Rattle.places.specs.Notes.{Notes}
 use Rattle.places.specs.declared.place.Place.{Place}
@@ -7,29 +7,17 @@ use Rattle.std.specs.Result.{result_err}
 use Rattle.opcodes.specs.Check.{check_of, time_of}
 use Rattle.links_drains.proofs.Chains.{enumerated, get-batch}
 use Rattle.links_drains.proofs.RowsKept.{length-push, get-pushed}
-
--- ---- The entries up to the first that fails
+use Rattle.links_drains.proofs.Units.{any_false, any_true}
+use Rattle.std.proofs.lemmas.List.Sums.{prefix_len_is}
 
 pub length_mapped : {X Y : Type 0} (f : X → Y) (xs : List X) → length (map f xs) ≡ length xs
 length_mapped = grind (arith, common_steps)
 
-pub prefix_on : {X : Type 0} (p : X → Bool) (xs : List X) (i : ℕ) (x : X) → i ≤ prefix_len p xs → slice_get xs i ≡ Some x → p x ≡ true → i + 1 ≤ prefix_len p xs
-prefix_on p [] i x h g t = absurd cc
-prefix_on p (y ∷ ys) zero x h g t = let e : y ≡ x = cc in rw (e, t) (omega arith)
-prefix_on p (y ∷ ys) (suc i) x h g t = by (p y) (λ k. prefix_on p ys i x k g t) h
-  where
-    by : (b : Bool) → (i ≤ prefix_len p ys → i + 1 ≤ prefix_len p ys) → suc i ≤ cond b (1 + prefix_len p ys) 0 → suc i + 1 ≤ cond b (1 + prefix_len p ys) 0
-    by true on k = let m = on (omega (arith, k)) in omega (arith, m)
-    by false on k = absurd (omega (arith, k))
-
-prefix_end : {X : Type 0} (p : X → Bool) (xs : List X) (i : ℕ) (x : X) → i ≤ prefix_len p xs → slice_get xs i ≡ Some x → p x ≡ false → prefix_len p xs ≡ i
-prefix_end p [] i x h g t = absurd cc
-prefix_end p (y ∷ ys) zero x h g t = let e : y ≡ x = cc in rw (e, t) refl
-prefix_end p (y ∷ ys) (suc i) x h g t = by (p y) (λ k. prefix_end p ys i x k g t) h
-  where
-    by : (b : Bool) → (i ≤ prefix_len p ys → prefix_len p ys ≡ i) → suc i ≤ cond b (1 + prefix_len p ys) 0 → cond b (1 + prefix_len p ys) 0 ≡ suc i
-    by true on k = let m = on (omega (arith, k)) in omega (arith, m)
-    by false on k = absurd (omega (arith, k))
+-- There is an entry at each index within the batch.
+pub element_there : (es : List Sqe) (i : ℕ) → i < length es → (e : Sqe) × (slice_get es i ≡ Some e)
+element_there [] i h = absurd (omega (arith, h))
+element_there (e ∷ es) zero h = (e, refl)
+element_there (e ∷ es) (suc i) h = element_there es i (omega (arith, h))
 
 -- ---- The errors of entries
 
@@ -39,33 +27,15 @@ length-errors w es = length_mapped (λ (p : ℕ × Sqe). error_of w es p.0 p.1) 
 pub get-errors : (w : WorldState) (es : List Sqe) (i : ℕ) (e : Sqe) → slice_get es i ≡ Some e → slice_get (errors_of w es) i ≡ Some (error_at w es i)
 get-errors = grind (arith, slice_get-map, enumerated)
 
-none_or_some : (o : Option ℤ) → is_none o ≡ not (is_some o)
-none_or_some = grind arith
+errors_at : (w : WorldState) (es : List Sqe) (i : ℕ) → i < length es → get_or (errors_of w es) i None ≡ error_at w es i
+errors_at w es i l = let e = element_there es i l in get_or_from_slice_get (errors_of w es) i (error_at w es i) None (get-errors w es i e.0 e.1)
 
--- After an entry that doesn't fail.
-pub errors_on : (w : WorldState) (es : List Sqe) (i : ℕ) (e : Sqe) → i ≤ prefix_len is_none (errors_of w es) → slice_get es i ≡ Some e → is_some (error_at w es i) ≡ false → i + 1 ≤ prefix_len is_none (errors_of w es)
-errors_on w es i e h g f = prefix_on is_none (errors_of w es) i (error_at w es i) h (get-errors w es i e g) (none_or_some (error_at w es i) ∙ ap not f)
+-- None of the first i entries fails.
+abbrev pub PassTo : WorldState → List Sqe → ℕ → Type 0
+PassTo w es i = (k : ℕ) → k < i → is_some (error_at w es k) ≡ false
 
--- The first entry that fails is the last one consumed.
-pub ends_with_failure : (w : WorldState) (es : List Sqe) (i : ℕ) (e : Sqe) → i ≤ prefix_len is_none (errors_of w es) → slice_get es i ≡ Some e → is_some (error_at w es i) ≡ true → take (i + 1) es ≡ up_to_failure w es
-ends_with_failure w es i e h g f = sym (ap (λ n. take (n + 1) es) (prefix_end is_none (errors_of w es) i (error_at w es i) h (get-errors w es i e g) (none_or_some (error_at w es i) ∙ ap not f)))
-
--- Whether some entry fails, or none.
-fails_among : (xs : List (Option ℤ)) (i : ℕ) (o : Option ℤ) → slice_get xs i ≡ Some o → is_some o ≡ true → list_any is_some xs ≡ true
-fails_among [] i o g f = absurd cc
-fails_among (x ∷ xs) zero o g f = let e : x ≡ o = cc in rw (e, f) refl
-fails_among (x ∷ xs) (suc i) o g f = grind (arith, fails_among xs i o g f)
-
-none_fails : (xs : List (Option ℤ)) → length xs ≤ prefix_len is_none xs → list_any is_some xs ≡ false
-none_fails [] h = refl
-none_fails (None ∷ xs) h = none_fails xs (omega (arith, h))
-none_fails (Some x ∷ xs) h = absurd (omega (arith, h))
-
-pub one_fails : (w : WorldState) (es : List Sqe) (i : ℕ) (e : Sqe) → slice_get es i ≡ Some e → is_some (error_at w es i) ≡ true → list_any is_some (errors_of w es) ≡ true
-one_fails w es i e g f = fails_among (errors_of w es) i (error_at w es i) (get-errors w es i e g) f
-
-pub all_pass : (w : WorldState) (es : List Sqe) → length es ≤ prefix_len is_none (errors_of w es) → list_any is_some (errors_of w es) ≡ false
-all_pass w es h = none_fails (errors_of w es) (let n = length-errors w es in omega (arith, n, h))
+is_none_is : (o : Option ℤ) → is_none o ≡ not (is_some o)
+is_none_is = grind arith
 
 pub take_more : {X : Type 0} (xs : List X) (i : ℕ) (x : X) → slice_get xs i ≡ Some x → take (i + 1) xs ≡ take i xs ++ x ∷ []
 take_more xs i x g = grind (arith, common_steps, gets)
@@ -90,13 +60,8 @@ rows_taken : (w : WorldState) (first : ℕ) (es : List Sqe) (n : ℕ) → take n
 rows_taken w first es n = same_list _ _ (λ i. by i (cases_lt i n))
   where
     by : (i : ℕ) → (i < n) ⊎ (n ≤ i) → slice_get (take n (rows_of w first es)) i ≡ slice_get (rows_of w first (take n es)) i
-    by i (inl less) = slice_get-take_below (rows_of w first es) n i less ∙ get-batch w first es i ∙ here (slice_get es i)
-        ∙ sym (get-batch w first (take n es) i ∙ ap (option_map (row_of w first (take n es) i)) (slice_get-take_below es n i less))
-      where
-        here : (o : Option Sqe) → option_map (row_of w first es i) o ≡ option_map (row_of w first (take n es) i) o
-        here None = refl
-        here (Some e) = ap Some (sym (row_taken w first es n i e less))
-    by i (inr past) = slice_get-take_above (rows_of w first es) n i past ∙ sym (get-batch w first (take n es) i ∙ ap (option_map (row_of w first (take n es) i)) (slice_get-take_above es n i past))
+    by i (inl less) = grind (arith, get-batch, slice_get-take_below, row_taken)
+    by i (inr past) = grind (arith, get-batch, slice_get-take_above)
 
 -- The list has the errors of the first i entries.
 pub record Listed (w : WorldState) (es : List Sqe) (i : ℕ) (errors : List (Option ℤ)) : Type 0 where
@@ -124,20 +89,29 @@ pub record Taken (w : WorldState) (es : List Sqe) (submit_all : Bool) (n : ℕ) 
   pub taken : take n es ≡ taken_of submit_all w es
   pub halts : halted ≡ halts submit_all w es
 
-pub all_taken : (w : WorldState) (es : List Sqe) (submit_all : Bool) (n : ℕ) → n ≡ length es → (submit_all ≡ false → n ≤ prefix_len is_none (errors_of w es)) → Taken w es submit_all n false
+pub all_taken : (w : WorldState) (es : List Sqe) (submit_all : Bool) (n : ℕ) → n ≡ length es → (submit_all ≡ false → PassTo w es n) → Taken w es submit_all n false
 all_taken w es true n len h = record { within = omega (arith, len); taken = take_all n es (omega (arith, len)); halts = refl }
-all_taken w es false n len h = let passes = h refl in record {
+all_taken w es false n len h = record {
   within = omega (arith, len);
-  taken = take_all n es (omega (arith, len)) ∙ sym (take_all _ es (omega (arith, len, passes)));
-  halts = sym (all_pass w es (omega (arith, len, passes)));
+  taken = take_all n es (omega (arith, len)) ∙ sym (take_all _ es (omega (arith, count, none)));
+  halts = sym (any_false is_some (errors_of w es) (λ k x g. let l = slice_get_within (errors_of w es) k x g in
+      let m : k < n = omega (arith, l, count, len) in
+      ap is_some (sym (get_or_from_slice_get (errors_of w es) k x None g) ∙ errors_at w es k (omega (arith, m, len))) ∙ h refl k m));
 }
+  where
+    count : length (errors_of w es) ≡ length es
+    count = length-errors w es
 
-pub failure_taken : (w : WorldState) (es : List Sqe) (submit_all : Bool) (i : ℕ) (e : Sqe) → submit_all ≡ false → (submit_all ≡ false → i ≤ prefix_len is_none (errors_of w es)) → slice_get es i ≡ Some e → is_some (error_at w es i) ≡ true → Taken w es submit_all (i + 1) true
-failure_taken w es true i e s h g f = absurd cc
-failure_taken w es false i e s h g f = record {
-  within = let l = slice_get_within es i e g in omega (arith, l);
-  taken = ends_with_failure w es i e (h refl) g f;
-  halts = sym (one_fails w es i e g f);
+    none : prefix_len is_none (errors_of w es) ≡ n
+    none = prefix_len_is is_none (errors_of w es) n None (omega (arith, count, len)) (λ k l. ap is_none (errors_at w es k (omega (arith, l, len))) ∙ is_none_is _ ∙ ap not (h refl k l)) (λ l. absurd (omega (arith, l, count, len)))
+
+pub failure_taken : (w : WorldState) (es : List Sqe) (submit_all : Bool) (i : ℕ) (error : Option ℤ) → submit_all ≡ false → (submit_all ≡ false → PassTo w es i) → i < length es → error ≡ error_at w es i → is_some error ≡ true → Taken w es submit_all (i + 1) true
+failure_taken w es true i error s h l is f = absurd cc
+failure_taken w es false i error s h l is f = record {
+  within = omega (arith, l);
+  taken = sym (ap (λ n. take (n + 1) es) (prefix_len_is is_none (errors_of w es) i None (let n = length-errors w es in omega (arith, n, l))
+      (λ k m. ap is_none (errors_at w es k (omega (arith, m, l))) ∙ is_none_is _ ∙ ap not (h refl k m)) (λ _. ap is_none (errors_at w es i l ∙ sym is) ∙ is_none_is _ ∙ ap not f)));
+  halts = let e = element_there es i l in sym (any_true is_some (errors_of w es) i (error_at w es i) (get-errors w es i e.0 e.1) (ap is_some (sym is) ∙ f));
 }
 
 pub count_taken : (w : WorldState) (es : List Sqe) (submit_all : Bool) (n : ℕ) (halted : Bool) → Taken w es submit_all n halted → n ≡ length (taken_of submit_all w es)
@@ -216,9 +190,3 @@ adding_on w before now later old new newer es i unit next e row t g l r h n k na
 pub row_is_row_of : (w : WorldState) (first : ℕ) (es : List Sqe) (i unit : ℕ) (x e : Sqe) (previous time target : Option ℕ) (error : Option ℤ) (row : Row) → row ≡ new_row x unit time target → time ≡ time_of w previous x → previous ≡ previous_in es i
     → error ≡ result_err (check_of w previous x) → target ≡ cond ((x.opcode == 15) && is_none error) (Some (first + i - 1)) None → x ≡ e → row ≡ new_row e unit (time_of w (previous_in es i) e) (target_of w first es i e)
 row_is_row_of = grind arith
-
--- There is an entry at each index within the batch.
-pub element_there : (es : List Sqe) (i : ℕ) → i < length es → (e : Sqe) × (slice_get es i ≡ Some e)
-element_there [] i h = absurd (omega (arith, h))
-element_there (e ∷ es) zero h = (e, refl)
-element_there (e ∷ es) (suc i) h = element_there es i (omega (arith, h))

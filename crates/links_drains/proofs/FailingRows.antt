@@ -1,5 +1,5 @@
 -- The requests of a batch that complete as they are submitted, computed row by row.
-use Rattle.links_drains.proofs.Common.{◌≡◌, ℕ, ℤ, zero, suc, Bool, true, false, cond, refl, sym, ◌∙◌, ap, map, List, [], ◌∷◌, ◌++◌, take, drop, length, replicate, get_or, ◌<◌, ◌≤◌, ◌+◌, ◌-◌, arith, Option, Some, None, option_map, is_some, slice_get, slice_set, ◌==◌, ◌&&◌, ◌||◌, option_and_then, cons_option, list_any, enumerate_from, eq-eqb, eqb-true, ne_eqb, and_left, and_right, get_or-drop, length-drop, length-set, length-replicate, length-take-le, take_all, slice_get_read, slice_get_within, get_or_from_slice_get, Submitted, Sqe, Row, slice_get-set, WorldState, chain_fails, chain_of, error_at, error_of, errors_of, rows_of, direct_of, direct_result, ecanceled, given, or_else, paired, endings_from, is_unfinished}
+use Rattle.links_drains.proofs.Common.{◌≡◌, ℕ, ℤ, zero, suc, Bool, true, false, cond, refl, sym, ◌∙◌, ap, List, [], ◌∷◌, ◌++◌, take, drop, length, replicate, get_or, ◌<◌, ◌≤◌, ◌+◌, ◌-◌, arith, Option, Some, None, option_map, is_some, slice_get, slice_set, ◌==◌, ◌&&◌, ◌||◌, option_and_then, cons_option, list_any, enumerate_from, eq-eqb, eqb-true, ne_eqb, and_left, and_right, get_or-drop, length-drop, length-set, length-replicate, length-take-le, take_all, slice_get_read, slice_get_within, get_or_from_slice_get, Submitted, Sqe, Row, slice_get-set, WorldState, chain_fails, chain_of, error_at, error_of, rows_of, direct_of, direct_result, ecanceled, given, or_else, paired, endings_from, is_unfinished}
 use Rattle.std.proofs.lemmas.List.FromFn.{length-enumerate_from}
 use Rattle.std.proofs.lemmas.List.Folds.{list_any-append}
 use Rattle.links_drains.proofs.Batching.{element_there, length-rows_of, take_more}

@@ -1,5 +1,5 @@
 -- The index remains correct when the table changes.
-use Rattle.links_drains.proofs.Common.{◌≡◌, ◌≢◌, ℕ, zero, suc, Bool, true, false, cond, refl, sym, ◌∙◌, ap, subst, List, [], ◌∷◌, ◌++◌, length, take, ◌+◌, ◌-◌, ◌<◌, ◌≤◌, ◌⊎◌, inl, inr, arith, Some, slice_get, slice_set, ◌==◌, ◌&&◌, option_map_or, cases_eq, cases_lt, ne_eqb, and_left, length-set, length-take, slice_get_within, slice_get_past, Row, slice_get-set, slice_get-set_same, slice_get-push, slice_get-take_below, slice_get-take_above, updated_set, has_count, threshold_in, threshold_of, has_drain_flag, Chained, ChainContinues, HasRoom, HasThresholds, Indexed, IndexedBut, Cleared, Unreached, Forgotten, has, passes_at, is_issued_row, is_open, is_barrier, is_under_way, eq-eqb, list_any, common_steps}
+use Rattle.links_drains.proofs.Common.{◌≡◌, ◌≢◌, ℕ, Bool, true, false, cond, refl, sym, ◌∙◌, ap, subst, List, [], ◌∷◌, ◌++◌, length, take, ◌+◌, ◌-◌, ◌<◌, ◌≤◌, ◌⊎◌, inl, inr, arith, Some, slice_get, slice_set, ◌==◌, ◌&&◌, option_map_or, cases_eq, cases_lt, ne_eqb, and_left, length-set, length-take, slice_get_within, slice_get_past, Row, slice_get-set, slice_get-set_same, slice_get-push, slice_get-take_below, slice_get-take_above, updated_set, has_count, threshold_in, threshold_of, has_drain_flag, Chained, ChainContinues, HasRoom, Indexed, IndexedBut, Cleared, Unreached, Forgotten, has, passes_at, is_issued_row, is_open, is_barrier, is_under_way, eq-eqb, list_any, common_steps}
 use Rattle.std.proofs.lemmas.List.Folds.{list_any-append}
 use Rattle.links_drains.specs.Eligible.{drains}
 use Rattle.bit_sets.specs.Thresholds.{never, threshold_at}
@@ -49,11 +49,7 @@ pub barriers_written : (rows : List Row) (r unit : ℕ) (b : Bool) (index : Inde
 barriers_written = grind arith
 
 pub barriers_kept : (rows : List Row) (r unit : ℕ) (index : Index) → IndexedBut r unit rows index → drains rows unit ≡ false → (u : ℕ) → has index.barriers u ≡ is_barrier rows u
-barriers_kept rows r unit index i none u = by (cases_eq u unit)
-  where
-    by : (u ≡ unit) ⊎ (u ≢ unit) → has index.barriers u ≡ is_barrier rows u
-    by (inl at) = rw at (i.undrained none ∙ sym (and_left _ _ none))
-    by (inr other) = i.barriers u other
+barriers_kept = grind (arith, cases_eq)
 
 -- The two sets that the rest depends on are correct.
 pub but_written : (rows : List Row) (r unit : ℕ) (index : Index) (unfinished flagged : List ℕ) → IndexedBut r unit rows index → length unfinished ≡ length index.unfinished → length flagged ≡ length index.flagged
@@ -75,11 +71,7 @@ get_other : (rows : List Row) (r q : ℕ) (row : Row) → r < length rows → q 
 get_other rows r q row h other = slice_get-set rows r q row h ∙ ap (λ b. cond b (Some row) (slice_get rows q)) (ne_eqb r q (λ e. other (sym e)))
 
 passes_set : (test : Row → Bool) (rows : List Row) (r : ℕ) (before row : Row) → slice_get rows r ≡ Some before → test row ≡ test before → (q : ℕ) → passes_at test (slice_set rows r row) q ≡ passes_at test rows q
-passes_set test rows r before row h same q = by (cases_eq q r)
-  where
-    by : (q ≡ r) ⊎ (q ≢ r) → passes_at test (slice_set rows r row) q ≡ passes_at test rows q
-    by (inl at) = rw at (ap (λ o. option_map_or test o false) (slice_get-set_same rows r row (slice_get_within rows r before h)) ∙ same ∙ sym (ap (λ o. option_map_or test o false) h))
-    by (inr other) = ap (λ o. option_map_or test o false) (get_other rows r q row (slice_get_within rows r before h) other)
+passes_set = grind (arith, slice_get-set, slice_get_within, cases_eq)
 
 pub flags_set : (rows : List Row) (index : Index) (r : ℕ) (before row : Row) → Indexed rows index → slice_get rows r ≡ Some before → has_drain_flag row ≡ has_drain_flag before → (q : ℕ) → has index.flagged q ≡ passes_at has_drain_flag (slice_set rows r row) q
 flags_set rows index r before row i h same q = i.flagged q ∙ sym (passes_set has_drain_flag rows r before row h same q)

@@ -28,15 +28,6 @@ pub struct Batch {
     pub direct: Vec<(u32, i32)>,
 }
 
-// The requests added for a batch.
-#[derive(Drop)]
-struct Added {
-    taken: usize,
-    halted: bool,
-    // The errors of the entries, up to the last that fails.
-    errors: Vec<Option<i32>>,
-}
-
 impl Table {
     /// Adds a queued request for each entry, or, without `submit_all`, for those up to and
     /// including the first invalid one. Timeouts are read from memory (struct __kernel_timespec).
@@ -104,31 +95,32 @@ impl Table {
     {
         let first = self.len() as u32;
         notes.expect_rows(entries.len())?;
-        let added = self.add_rows(entries, world, submit_all, notes)?;
-        let direct = direct_ends(self.allocator(), &added.errors, first, self.rows())?;
+        let (taken, halted, errors) = self.add_rows(entries, world, submit_all, notes)?;
+        let direct = direct_ends(self.allocator(), &errors, first, self.rows())?;
         Ok(Batch {
-            taken: added.taken as u32,
-            halted: added.halted,
+            taken: taken as u32,
+            halted,
             direct,
         })
     }
 
-    // Checks each entry, and adds its request.
+    // Checks each entry, and adds its request. Returns how many became requests, whether the last
+    // of them failed and stopped the submission, and the errors up to the last entry that fails.
     fn add_rows(
         &mut self,
         entries: &[Sqe],
         world: &World,
         submit_all: bool,
         notes: &mut Recorder,
-    ) -> Result<Added, AllocError>
+    ) -> Result<(usize, bool, Vec<Option<i32>>), AllocError>
         requires { length self.old + length entries.now ≤ 65536 }
         ensures ok { OnOk result (self.new ≡ self.old
             ++ rows_of world.now (length self.old) (taken_of submit_all world.now entries.now)) }
-        ensures taken { IfOk result (λ added. added.taken
+        ensures taken { IfOk result (λ added. added.0
             ≡ length (taken_of submit_all world.now entries.now)) }
-        ensures halted { IfOk result (λ added. added.halted
+        ensures halted { IfOk result (λ added. added.1
             ≡ halts submit_all world.now entries.now) }
-        ensures errors { IfOk result (λ added. (i : ℕ) → error_in added.errors.items i
+        ensures errors { IfOk result (λ added. (i : ℕ) → error_in added.2.items i
             ≡ error_at world.now (taken_of submit_all world.now entries.now) i) }
         ensures before { take (length self.old) self.new ≡ self.old }
         ensures keeps { Keeps table_owns (table_seen self.old)
@@ -146,21 +138,13 @@ impl Table {
             self.push(row, notes)?;
             note_error(&mut errors, i, error)?;
             if error.is_some() && !submit_all {
-                return Ok(Added {
-                    taken: i + 1,
-                    halted: true,
-                    errors,
-                });
+                return Ok((i + 1, true, errors));
             }
             if !is_linked(&entries[i]) {
                 unit = first + i as u32 + 1;
             }
         }
-        Ok(Added {
-            taken: entries.len(),
-            halted: false,
-            errors,
-        })
+        Ok((entries.len(), false, errors))
     }
 }
 

@@ -1,4 +1,4 @@
-use Rattle.std.proofs.Common.{◌≡◌, ◌∙◌, ◌+◌, ◌-◌, ◌++◌, ◌∷◌, ◌<◌, [], Some, sym, ap, drop, length, w32, FitsSigned, rules, arith}
+use Rattle.std.proofs.Common.{◌≡◌, ◌∙◌, ◌+◌, ◌-◌, ◌++◌, ◌∷◌, [], Some, sym, ap, drop, w32, FitsSigned, rules, arith}
 use Rattle.std.proofs.lemmas.Int.{to_z-of_z}
 use Rattle.links_drains.proofs.Common.{append-nil, take_all, length-drop, slice_get_past, slice_get_within, option_and_then, Option, ℤ, direct_result, endings_from, error_at}
 use Rattle.links_drains.proofs.Chains.{chain_before}

@@ -1,5 +1,6 @@
 use Rattle.links_drains.proofs.Common.{◌≡◌, ◌∙◌, ◌+◌, ◌⊎◌, inl, inr, Bool, true, false, sym, ap, length, cond, arith, is_some, slice_get-get_or}
-use Rattle.links_drains.proofs.Batching.{all_added, all_taken, adding_on, count_taken, element_there, errors_on, errors_taken, failure_taken, listed_on, next_continues, rows_on}
+use Rattle.std.proofs.Common.{below_more}
+use Rattle.links_drains.proofs.Batching.{all_added, all_taken, adding_on, count_taken, element_there, errors_taken, failure_taken, listed_on, next_continues, rows_on}
 use Rattle.links_drains.proofs.table.Table.add_rows.Goals as goal
 use Rattle.links_drains.proofs.table.Table.add_rows.Goals.{then-not-is_linked, else-not-is_linked}
 
@@ -26,36 +27,28 @@ loop-i-preserved c =
           (next ∙ ap (λ b. cond b c.loop-i.unit (length c.args.self.now + c.loop-i.i + 1)) c.is_linked.ensures)
           c.in_ok-push.ensures.keeps c.in_ok-push.ensures.named c.in_ok-push.ensures.numbers c.in_ok-push.ensures.completions;
       listed = listed_on c.args.world.now c.args.entries.now c.loop-i.i c.row_at-error.result.1 c.loop-i.errors.items c.note_error.new.errors.items c.loop-i.invariant.listed c.row_at-error.ensures.error c.in_ok-note_error.ensures.len c.in_ok-note_error.ensures.each;
-      passes = λ off. errors_on c.args.world.now c.args.entries.now c.loop-i.i _ (c.loop-i.invariant.passes off) there
-          (ap is_some (sym c.row_at-error.ensures.error) ∙ sym c.is_some.ensures ∙ still c.is_some.result c.args.submit_all c.else-is_some.either off);
+      passes = λ off. below_more _ _ (c.loop-i.invariant.passes off) (ap is_some (sym c.row_at-error.ensures.error) ∙ sym c.is_some.ensures ∙ still c.is_some.result c.args.submit_all c.else-is_some.either off);
     }
 
 pub returns-then-not-submit_all-clause-ok : goal.returns-then-not-submit_all-clause-ok
 returns-then-not-submit_all-clause-ok c =
     let e = element_there c.args.entries.now c.loop-i.i c.loop-i-test.true in
-    let fails = ap is_some (sym c.row_at-error.ensures.error) ∙ sym c.is_some.ensures ∙ c.if-is_some.true in
-    let t = failure_taken c.args.world.now c.args.entries.now c.args.submit_all c.loop-i.i e.0 c.if-not-submit_all.true c.loop-i.invariant.passes e.1 fails in
+    let t = failure_taken c.args.world.now c.args.entries.now c.args.submit_all c.loop-i.i _ c.if-not-submit_all.true c.loop-i.invariant.passes c.loop-i-test.true c.row_at-error.ensures.error (sym c.is_some.ensures ∙ c.if-is_some.true) in
     all_added c.args.world.now c.args.self.now c.push.new.self c.args.entries.now _ (c.loop-i.i + 1)
     (rows_on c.args.world.now c.args.self.now c.loop-i.self c.push.new.self c.args.notes.now c.loop-i.notes c.args.entries.now c.loop-i.i c.loop-i.unit e.0 c.row_at-error.result.0 c.loop-i.invariant.adding e.1
     (rw (← c.len-first.ensures.len) (c.row_at-error.ensures.row e.0 e.1)) c.in_ok-push.ensures.ok) t.taken
 
 pub returns-then-not-submit_all-clause-taken : goal.returns-then-not-submit_all-clause-taken
 returns-then-not-submit_all-clause-taken c =
-    let e = element_there c.args.entries.now c.loop-i.i c.loop-i-test.true in
-    let fails = ap is_some (sym c.row_at-error.ensures.error) ∙ sym c.is_some.ensures ∙ c.if-is_some.true in
-    count_taken c.args.world.now c.args.entries.now c.args.submit_all _ _ (failure_taken c.args.world.now c.args.entries.now c.args.submit_all c.loop-i.i e.0 c.if-not-submit_all.true c.loop-i.invariant.passes e.1 fails)
+    count_taken c.args.world.now c.args.entries.now c.args.submit_all _ _ (failure_taken c.args.world.now c.args.entries.now c.args.submit_all c.loop-i.i _ c.if-not-submit_all.true c.loop-i.invariant.passes c.loop-i-test.true c.row_at-error.ensures.error (sym c.is_some.ensures ∙ c.if-is_some.true))
 
 pub returns-then-not-submit_all-clause-halted : goal.returns-then-not-submit_all-clause-halted
 returns-then-not-submit_all-clause-halted c =
-    let e = element_there c.args.entries.now c.loop-i.i c.loop-i-test.true in
-    let fails = ap is_some (sym c.row_at-error.ensures.error) ∙ sym c.is_some.ensures ∙ c.if-is_some.true in
-    (failure_taken c.args.world.now c.args.entries.now c.args.submit_all c.loop-i.i e.0 c.if-not-submit_all.true c.loop-i.invariant.passes e.1 fails).halts
+    (failure_taken c.args.world.now c.args.entries.now c.args.submit_all c.loop-i.i _ c.if-not-submit_all.true c.loop-i.invariant.passes c.loop-i-test.true c.row_at-error.ensures.error (sym c.is_some.ensures ∙ c.if-is_some.true)).halts
 
 pub returns-then-not-submit_all-clause-errors : goal.returns-then-not-submit_all-clause-errors
 returns-then-not-submit_all-clause-errors c =
-    let e = element_there c.args.entries.now c.loop-i.i c.loop-i-test.true in
-    let fails = ap is_some (sym c.row_at-error.ensures.error) ∙ sym c.is_some.ensures ∙ c.if-is_some.true in
-    let t = failure_taken c.args.world.now c.args.entries.now c.args.submit_all c.loop-i.i e.0 c.if-not-submit_all.true c.loop-i.invariant.passes e.1 fails in
+    let t = failure_taken c.args.world.now c.args.entries.now c.args.submit_all c.loop-i.i _ c.if-not-submit_all.true c.loop-i.invariant.passes c.loop-i-test.true c.row_at-error.ensures.error (sym c.is_some.ensures ∙ c.if-is_some.true) in
     errors_taken c.args.world.now c.args.entries.now _ (c.loop-i.i + 1) c.note_error.new.errors.items
     (listed_on c.args.world.now c.args.entries.now c.loop-i.i c.row_at-error.result.1 c.loop-i.errors.items c.note_error.new.errors.items c.loop-i.invariant.listed c.row_at-error.ensures.error c.in_ok-note_error.ensures.len c.in_ok-note_error.ensures.each) t.taken
 
@@ -63,6 +56,11 @@ pub returns-clause-ok : goal.returns-clause-ok
 returns-clause-ok c =
     all_added c.args.world.now c.args.self.now c.loop-i.self c.args.entries.now _ c.loop-i.i c.loop-i.invariant.adding.rows
     (all_taken c.args.world.now c.args.entries.now c.args.submit_all c.loop-i.i (omega (arith, c.loop-i-test.false, c.loop-i.auto.i-end)) c.loop-i.invariant.passes).taken
+
+pub returns-clause-taken : goal.returns-clause-taken
+returns-clause-taken c =
+    let n = count_taken c.args.world.now c.args.entries.now c.args.submit_all c.loop-i.i _ (all_taken c.args.world.now c.args.entries.now c.args.submit_all c.loop-i.i (omega (arith, c.loop-i-test.false, c.loop-i.auto.i-end)) c.loop-i.invariant.passes) in
+    omega (arith, n, c.loop-i-test.false, c.loop-i.auto.i-end)
 
 pub returns-clause-halted : goal.returns-clause-halted
 returns-clause-halted c = (all_taken c.args.world.now c.args.entries.now c.args.submit_all c.loop-i.i (omega (arith, c.loop-i-test.false, c.loop-i.auto.i-end)) c.loop-i.invariant.passes).halts
