@@ -7,10 +7,6 @@ use Rattle.opcodes.specs.Effects.{HasPosition}
 use Rattle.std.proofs.lemmas.Option.{slice_get_within}
 use Rattle.model_files.proofs.Describing.{number_from_three}
 
--- Descriptor numbers are at most 66.
-pub number_below : (w : WorldState) (fd : ℕ) (d : DescriptorState) → WorldFormed w → descriptor_of w fd ≡ Some d → fd < 67
-number_below w fd d f h = let n = number_from_three w fd d h in let l = slice_get_within w.descriptors (fd - 3) d n.1 in let few = f.few in let low = n.0 in omega (arith, l, few, low)
-
 -- If a result is not an error, any claim about its error holds.
 pub moves : {A E : Type 0} (r : Result A E) (P : Type 0) → IsOk r → OnErr r P
 moves = grind arith

@@ -5,10 +5,6 @@ use Rattle.model_files.specs.declared.body.Body.TheVariants.{File as FileBody, P
 use Rattle.model_files.proofs.Describing.{number_from_three}
 use Rattle.model_files.proofs.Forming.{file_formed}
 
--- The fixed properties are the same, whether the transfer succeeds or an allocation fails.
-pub setup_either : {T E : Type 0} (a b d : WorldState) (r : Result T E) → OnOk r (b ≡ d) → OnErr r (b ≡ a) → OneSetup a d → OneSetup a b
-setup_either = grind arith
-
 pub setup_moved : (w : WorldState) (fd n : ℕ) (d : DescriptorState) (p : ℕ) → descriptor_of w fd ≡ Some d → d.position ≡ Some p → OneSetup w (world_at fd n w)
 setup_moved w fd n d p h e = setup_at fd n w (λ x k. let same : x ≡ d = (let g = (number_from_three w fd d h).1 in let both = sym k ∙ g in cc) in ap is_some (ap (λ (y : DescriptorState). y.position) same ∙ e))
 
@@ -84,16 +80,6 @@ row_read = grind (arith, read_keeps, stock_fits, outcome_is)
 pub row_written : (held : ℕ → Bool) (w : WorldState) (row : Row) (d : DescriptorState) (s : Stock) (c : Choice) (res : ℤ) (k : ℕ) → op_of row.entry.opcode ≡ Some Write → held_descriptor w row ≡ Some d → stock_of w d.object ≡ Some s → pos k ≡ res → outcome_of held w row c ≡ Res res → WriteKeeps row.entry (position_of (Some d)) (number_at w row.entry.addr) k s
 row_written = grind (arith, write_keeps)
 
-pub some_bytes : (k : ℕ) → (k ≡ 0 → ⊥) → 0 < k
-some_bytes = grind arith
-
 -- A present file satisfies its invariant.
 pub file_there : (w : WorldState) → WorldFormed w → (o : ℕ) → IsSome (file_of w o) → IsSomeAnd (file_of w o) FileFormed
 file_there = grind (arith, file_formed)
-
--- The fixed properties are the same after each kind of transfer, or if an allocation fails.
-pub taken_setup : {T E : Type 0} (entry : Sqe) (o k : ℕ) (w b : WorldState) (r : Result T E) → WorldFormed w → entry.addr + k ≤ 65536 → IsSomeAnd (pipe_of w o) (GivesOut k) → OnOk r (b ≡ world_taken o k entry.addr w) → OnErr r (b ≡ w) → OneSetup w b
-taken_setup entry o k w b r f l g h e = setup_either w b (world_taken o k entry.addr w) r h e (setup_taken o k entry.addr w f l g)
-
-pub put_setup : {T E : Type 0} (entry : Sqe) (o k : ℕ) (w b : WorldState) (r : Result T E) → OnOk r (b ≡ world_put o k entry.addr w) → OnErr r (b ≡ w) → OneSetup w b
-put_setup entry o k w b r h e = setup_either w b (world_put o k entry.addr w) r h e (setup_put o k entry.addr w)

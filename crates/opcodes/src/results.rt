@@ -200,6 +200,7 @@ fn poll_outcome(entry: &Sqe, mask: u32, choice: Choice) -> Outcome
 }
 
 // A READ whose buffer is within the memory.
+#[tactic(auto, using(crate::proofs::Nothing::bytes_read_nothing))]
 fn read(
     world: &World,
     held: &Held,

@@ -1,18 +1,9 @@
-use Rattle.opcodes.proofs.Common.{◌≡◌, refl, sym, ◌∙◌, ap, ◌+◌, ◌≤◌, arith, rules, Some, File, Pipe, stock_of, held_descriptor, Read}
+use Rattle.opcodes.proofs.Common.{◌≡◌, refl, sym, ◌∙◌, ap, ◌+◌, ◌≤◌, arith, rules, Some, Pipe, stock_of, held_descriptor, Read}
 use Rattle.opcodes.specs.Outcomes.{count_in}
-use Rattle.opcodes.proofs.Deciding.{descriptor_is, does, pipe_read_within}
-use Rattle.opcodes.proofs.Nothing.{bytes_read_nothing, taken_nothing}
+use Rattle.opcodes.proofs.Deciding.{does, pipe_read_within}
+use Rattle.opcodes.proofs.Nothing.{taken_nothing}
 use Rattle.opcodes.proofs.Transferring.{gives_out}
 use Rattle.opcodes.proofs.results.read.Goals as goal
-
-pub returns-in-Some-eq0-clause-effect : goal.returns-in-Some-eq0-clause-effect
-returns-in-Some-eq0-clause-effect c res e f puts =
-    let w = c.args.world.now in
-    let row = c.args.row.now in
-    let d = c.in-Some-Some.descriptor in
-    let there : held_descriptor w row ≡ Some d = sym c.requires.held ∙ c.in-Some-Some.is-1 in
-    let counted : Some 0 ≡ count_in c.file_read-outcome.result = search rules in
-    does w row c.in-Some-Some.fd d Read (File c.in-Some-File.size) 0 _ res _ c.in-Some-Some.is-0 there c.requires.op (sym c.in-Some-File.ensures.value ∙ ap Some c.in-Some-File.field-0-is) counted e (sym (bytes_read_nothing row.entry c.in-Some-Some.fd d w (descriptor_is w row c.in-Some-Some.fd d c.in-Some-Some.is-0 there))) tt
 
 pub returns-in-Some-count-clause-effect : goal.returns-in-Some-count-clause-effect
 returns-in-Some-count-clause-effect c res e f puts =
