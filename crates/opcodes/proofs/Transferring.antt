@@ -1,6 +1,6 @@
 -- Bounds that a successful transfer satisfies.
-use Rattle.opcodes.proofs.Common.{◌≡◌, ℕ, ℤ, pos, negsuc, Bool, cond, refl, sym, ◌∙◌, ap, subst, ◌+◌, ◌-◌, ◌<◌, ◌≤◌, ◌^◌, arith, option_and_then, Sqe, Row, Body, DescriptorState, Stock, File, Pipe, EventFd, PipeFormed, GivesOut, TakesIn, filled, WorldState, WorldFormed, BodyFormed, StockFits, OneSetup, PutsWithin, descriptor_of, file_of, pipe_in, pipe_of, counter_of, stock_in, stock_of, number_at, world_at, world_put, world_taken, FileFormed, setup_at, setup_taken, setup_put, Choice, Op, Read, Write, Res, op_of, fixed, passes_memory, offset_of, read_outcome, write_outcome, outcome_on, outcome_of, held_descriptor, position_of}
-use Rattle.std.specs.Prelude.{Option, Some, None, IsSome, IsSomeAnd, is_some, option_map, slice_get, length, Result, OnOk, OnErr}
+use Rattle.opcodes.proofs.Common.{◌≡◌, ℕ, ℤ, pos, negsuc, Bool, cond, refl, sym, ◌∙◌, ap, subst, ◌+◌, ◌-◌, ◌<◌, ◌≤◌, ◌^◌, arith, option_and_then, Sqe, Row, Body, DescriptorState, Stock, File, Pipe, EventFd, PipeFormed, GivesOut, TakesIn, filled, WorldState, WorldFormed, BodyFormed, StockFits, OneSetup, PutsWithin, descriptor_of, file_of, pipe_in, pipe_of, counter_of, stock_in, stock_of, number_at, world_at, FileFormed, setup_at, Choice, Op, Read, Write, Res, op_of, fixed, passes_memory, offset_of, read_outcome, write_outcome, outcome_on, outcome_of, held_descriptor, position_of}
+use Rattle.std.specs.Prelude.{Option, Some, None, IsSome, IsSomeAnd, is_some, option_map, slice_get, length}
 use Rattle.model_files.specs.declared.body.Body.TheVariants.{File as FileBody, Pipe as PipeBody, EventFd as EventBody}
 use Rattle.model_files.proofs.Describing.{number_from_three}
 use Rattle.model_files.proofs.Forming.{file_formed}
