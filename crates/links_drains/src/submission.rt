@@ -12,8 +12,7 @@ use crate::links::is_linked;
 use crate::table::{Table, new_row};
 use entries::{Row, Sqe};
 use model_files::World;
-use opcodes::checks::check_timed;
-use opcodes::{Context, Op};
+use opcodes::{Context, Op, check_timed};
 use places::Recorder;
 use std::alloc::AllocError;
 

@@ -9,7 +9,7 @@ pub mod results;
 pub mod running;
 mod streams;
 
-pub use checks::{Context, check, time_of};
+pub use checks::{Context, check, check_timed, time_of};
 pub use effect::{Effect, Transfer, carry_out};
 pub use ending::Outcome;
 pub use entries::Choice;
