@@ -2,4 +2,4 @@
 
 /// The version, and the line of the kit, which `--version` prints after the program's name. They are
 /// written here alone: the scripts read them from this line.
-pub const VERSION: &str = "0.1.0\nproved with rattle-kit-13b logic dac8208d650f15bf";
+pub const VERSION: &str = "0.1.0\nproved with rattle-kit-13f logic dac8208d650f15bf";

@@ -12,7 +12,7 @@ use sqpoll::Poller;
 use std::alloc::{AllocError, Global};
 
 /// A copy of a machine. It shares the entries of the rings, the requests, and the bytes of the
-/// memory, the files and the pipes. The other parts are small, and are its own.
+/// memory, the files and the pipes. The other parts are its own.
 #[derive(Drop)]
 pub struct SharedMachine {
     pub submissions: SharedSubRing,
@@ -28,7 +28,7 @@ pub struct SharedMachine {
 }
 
 impl Machine {
-    /// Returns a copy. Copies only pages that were written since the last shared copy.
+    /// Returns a copy. Of what it shares, copies only pages that were written since the last one.
     pub(crate) fn share(&mut self, alloc: Global) -> Result<SharedMachine, AllocError>
         ensures ok { IfOk result (λ copy. machine_in copy ≡ self.old) }
         ensures same { self.new ≡ self.old }

@@ -51,7 +51,7 @@ impl Table {
 
 impl SharedTable {
     /// Returns a table that shows the copy, in the storage of another table if one is given.
-    /// Allocates only the pages that it lacks, and copies no other page.
+    /// Copies the index. Of the rows, allocates only the pages that it lacks.
     pub fn restore(&self, alloc: Global, room: Option<Table>) -> Result<Table, AllocError>
         ensures { IfOk result (λ table. table ≡ self.now) }
     {

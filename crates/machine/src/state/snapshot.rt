@@ -34,7 +34,7 @@ impl Model for Snapshot {
 }
 
 impl State {
-    /// Returns a copy. Copies only pages that were written since the last such copy.
+    /// Returns a copy. Of what it shares, copies only pages that were written since the last one.
     pub fn snapshot(&mut self, alloc: Global) -> Result<Snapshot, AllocError>
         ensures ok { IfOk result (λ copy. copy ≡ self.old) }
         ensures same { self.new ≡ self.old }
