@@ -1,6 +1,6 @@
 //! Requests that complete as they are submitted, because an entry of their chain is invalid
 //! (io_uring_enter(2)).
-ghost use Rattle.std.specs.Prelude.{◌≡◌, ℕ, ◌+◌, ◌<◌, ◌≤◌, ◌==◌, List, IfOk, OnOk, Some, if◌then◌else◌, length, slice_get};
+ghost use Rattle.std.specs.Prelude.{◌≡◌, ℕ, ◌+◌, ◌<◌, ◌≤◌, ◌==◌, List, IfOk, None, OnOk, Some, if◌then◌else◌, length, slice_get};
 ghost use Rattle.entries.specs.declared.entry.Sqe.{Sqe};
 ghost use Rattle.model_files.specs.Worlds.{WorldState};
 ghost use Rattle.links_drains.specs.Batches.{previous_in, chain_fails, direct_of, error_in, shown_on as shown_by, Submitted};
@@ -43,6 +43,7 @@ pub(crate) fn note_error(
     ensures len { OnOk result (length errors.new.items ≤ i + 1) }
     ensures each { OnOk result ((k : ℕ) → error_in errors.new.items k
         ≡ (if k == i then error else error_in errors.old.items k)) }
+    ensures same { error ≡ None → errors.new.items ≡ errors.old.items }
 {
     if error.is_some() {
         errors.resize(i, None)?;

@@ -85,7 +85,7 @@ impl Index {
         self.update(rows, r);
     }
 
-    /// Updates the index for request r, whose phase has changed.
+    /// Updates the index for request r, whose phase has changed, or whose chain has lost requests.
     #[inline(always)]
     pub(crate) fn change(&mut self, rows: &Rows, r: usize)
         requires but { (row : Row) × (slice_get rows.now r ≡ Some row)

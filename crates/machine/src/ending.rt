@@ -4,7 +4,7 @@ ghost use Rattle.places.specs.View.{Keeps};
 ghost use Rattle.machine.specs.Steps.{all_ended, cascaded, completion_of, completions_of, delivery, posted};
 ghost use Rattle.overflow.specs.Backlogs.{DeliveryFormed};
 ghost use Rattle.links_drains.specs.Endings.{Direct};
-ghost use Rattle.timeouts_cancel.specs.Cascades.{GuardsAreLinked};
+ghost use Rattle.timeouts_cancel.specs.Cascades.{counted_in, GuardsAreLinked};
 ghost use Rattle.machine.specs.Whole.{view, everywhere, Grows, Mostly};
 
 use crate::whole::Machine;
@@ -15,7 +15,8 @@ use std::alloc::AllocError;
 use timeouts_cancel::{count, fall, falls_alone};
 
 impl Machine {
-    /// Completes the requests in `direct` and their cascade. Most cascades are empty: no list is made.
+    /// Completes the requests in `direct` and their cascade. Most cascades are empty: then no list is
+    /// made.
     #[tactic(auto, unfolding(crate::specs::Steps::cascaded))]
     pub(crate) fn cascade(
         &mut self,
@@ -30,24 +31,30 @@ impl Machine {
         ensures keeps { Keeps everywhere (view self.old)
             (view self.new) notes.old.made notes.new.made }
     {
-        if falls_alone(&self.table, self.counted, direct) {
-            return self.end_all(direct, notes);
+        if let Some(counted) = falls_alone(&self.table, self.counted, direct) {
+            return self.end_all(direct, counted, notes);
         }
         let endings = fall(&self.table, self.counted, direct)?;
-        self.end_all(&endings, notes)
+        let counted = count(&self.table, &endings);
+        self.end_all(&endings, counted, notes)
     }
 
     // Completes requests together, each with its result. Their completions are posted in the order
-    // of the list.
-    fn end_all(&mut self, endings: &[(u32, i32)], notes: &mut Recorder) -> Result<(), AllocError>
+    // of the list; `counted` of them count for TIMEOUTs.
+    fn end_all(
+        &mut self,
+        endings: &[(u32, i32)],
+        counted: u32,
+        notes: &mut Recorder,
+    ) -> Result<(), AllocError>
         requires direct { Direct self.old.table endings.now }
+        requires counted { counted ≡ counted_in self.old.table endings.now }
         requires mostly { Mostly self.old }
         ensures ok { OnOk result (self.new ≡ all_ended self.old endings.now) }
         ensures grows { Grows self.old self.new }
         ensures keeps { Keeps everywhere (view self.old)
             (view self.new) notes.old.made notes.new.made }
     {
-        let counted = count(&self.table, endings);
         self.post_each(endings, notes)?;
         self.table.end_all(endings, notes)?;
         self.count(counted, notes)

@@ -3,7 +3,7 @@
 ghost use Rattle.std.specs.Prelude.{◌≡◌, ◌≢◌, ◌&&◌, ◌+◌, ◌^◌, ◌<◌, ◌≤◌, ℕ, IfOk, IfSome, None, Some, false, length, slice_get, true};
 ghost use Rattle.links_drains.specs.Links.{is_soft_linked as has_soft_link};
 ghost use Rattle.links_drains.specs.Endings.{Ending, Direct};
-ghost use Rattle.timeouts_cancel.specs.Cascades.{fall_of, first_listed, with_severed, is_bad, GuardsAreLinked};
+ghost use Rattle.timeouts_cancel.specs.Cascades.{counted_in, fall_of, first_listed, with_severed, is_bad, GuardsAreLinked};
 ghost use Rattle.timeouts_cancel.specs.Walks.{Walked, Sweeping, severed_endings};
 
 use crate::guards::{guards, guards_any};
@@ -37,20 +37,26 @@ pub fn fall(
     add(table, ended, &guards)
 }
 
-/// Returns whether a step completes only the requests in `direct`: none of them severs the rest of
-/// its chain or has a linked timeout, and no TIMEOUT's count is then reached. Doesn't allocate.
-pub fn falls_alone(table: &Table, counted: u32, direct: &[(u32, i32)]) -> bool
+/// Returns how many of the completions in `direct` count for TIMEOUTs, if a step completes only
+/// these: none of them severs its chain or has a linked timeout, and no TIMEOUT's count is then
+/// reached. Doesn't allocate.
+pub fn falls_alone(table: &Table, counted: u32, direct: &[(u32, i32)]) -> Option<u32>
     requires direct { Direct table.now direct.now }
     requires guards { GuardsAreLinked table.now }
     requires counted { counted ≤ 65536 }
-    ensures { result ≡ true → fall_of table.now counted direct.now ≡ direct.now }
+    ensures alone { IfSome result (λ n. fall_of table.now counted direct.now ≡ direct.now) }
+    ensures count { IfSome result (λ n. n ≡ counted_in table.now direct.now) }
 {
     prove!(table.len() <= 65536);
     if severs_any(table, direct) {
-        return false;
+        return None;
     }
-    let total = counted + count(table, direct);
-    !meets_any(table, total) && !guards_any(table, direct)
+    let count = count(table, direct);
+    let total = counted + count;
+    if meets_any(table, total) || guards_any(table, direct) {
+        return None;
+    }
+    Some(count)
 }
 
 // Whether a direct completion severs the rest of its chain.

@@ -49,10 +49,7 @@ fn is_guarded(table: &Table, r: u32) -> bool
     requires { r < 65536 }
     ensures { result ≡ option_map_or (guards_row r) (slice_get table.now (r + 1)) false }
 {
-    match table.get(r + 1) {
-        Some(row) => guards_row(&row, r),
-        None => false,
-    }
+    r as usize + 1 < table.len() && guards_row(table.row_ref(r + 1), r)
 }
 
 // Whether the request is an unfinished linked timeout of `target`.
