@@ -4,7 +4,7 @@ use Rattle.links_drains.proofs.Batching.{all_added, all_taken, adding_on, count_
 use Rattle.links_drains.proofs.table.Table.add_rows.Goals as goal
 use Rattle.links_drains.proofs.table.Table.add_rows.Goals.{then-not-is_linked, else-not-is_linked}
 
--- Only with `submit_all` does the loop go on after an entry that fails.
+-- Only with `submit_all` does the loop continue after an entry that fails.
 still : (fails submit_all : Bool) → ((fails ≡ true) × (submit_all ≡ true)) ⊎ (fails ≡ false) → submit_all ≡ false → fails ≡ false
 still fails submit_all (inl h) off = let on = h.1 in absurd cc
 still fails submit_all (inr h) off = h
