@@ -1,13 +1,10 @@
 use Rattle.machine.proofs.Common.{◌≡◌, ap, arith, Machine}
-use Rattle.machine.proofs.FormedMachines.{counts_of_endings, room_for_endings}
+use Rattle.machine.proofs.FormedMachines.{counts_of_endings}
 use Rattle.machine.proofs.whole.Machine.end_all.Goals as goal
-
-pub count-counted-requires : goal.count-counted-requires
-count-counted-requires c = record { few = let k = room_for_endings c.args.self.now c.args.endings.now c.requires.mostly c.requires.direct in omega (arith, k) }
 
 pub count-requires : goal.count-requires
 count-requires c =
     let k = counts_of_endings c.args.self.now c.args.endings.now c.requires.mostly c.requires.direct in
     let same : c.post_each.new.self.counted ≡ c.args.self.now.counted = ap (λ (m : Machine). m.counted) c.in_ok-post_each.ensures.ok in
-    let n = c.count-counted.ensures in
+    let n = c.requires.counted in
     omega (arith, k, same, n)
