@@ -120,6 +120,10 @@ def other_breakpoints(checks, adapter, run):
     body = adapter.body("setFunctionBreakpoints", breakpoints=[{"name": name}, {"name": "finnish"}])
     verified(checks, name, body, [True, False])
     runs_through(checks, adapter, run, name, named, named, "breakpoint")
+    names = [{"name": it} for it in ("issue", name, "finish")]
+    verified(checks, "three names", adapter.body("setFunctionBreakpoints", breakpoints=names), [True] * 3)
+    named = [index for index, it in enumerate(run.events) if it.split(" ")[0] in ("issue", "finish")]
+    runs_through(checks, adapter, run, "three names", named, named, "breakpoint")
     conditional = adapter.body("setFunctionBreakpoints", breakpoints=[{"name": name, "condition": "= 1"}])
     unverified(checks, "a name with a condition", conditional)
     adapter.body("setFunctionBreakpoints", breakpoints=[])
@@ -153,6 +157,30 @@ def findings(checks, adapter, run):
             checks.same(f"{filters}: the exception at {at}", (info["exceptionId"], info.get("description")),
                         (here[0]["kind"], here[0]["text"]))
     adapter.body("setExceptionBreakpoints", filters=[])
+
+
+def restarts_to_a_fault(checks, run):
+    """Launches and restarts a run that stops only at faults: each time the text is that of the fault, and not of a note before it."""
+    fault = next(it for it in run.findings if it["fault"])
+    first = next(it for it in run.findings if it["moment"] == fault["moment"])
+    checks.same("a note before the first fault, at its moment", first["fault"], False)
+    wanted = ("exception", fault["text"], fault["moment"], fault["kind"], fault["text"])
+    with Adapter() as adapter:
+        adapter.start(**run.launch())
+        adapter.body("setExceptionBreakpoints", filters=["faults"])
+        checks.same("the first fault", shown_fault(adapter, adapter.configured()), wanted)
+        for number in (1, 2):
+            adapter.events.clear()
+            adapter.body("restart")
+            stopped = adapter.event("stopped")["body"]
+            checks.same(f"the first fault after restart {number}", shown_fault(adapter, stopped), wanted)
+        checks.same("messages", adapter.end(), [])
+
+
+def shown_fault(adapter, stopped):
+    """Returns what the editor shows where a run stopped: why, the text, the moment, and the exception."""
+    info = adapter.body("exceptionInfo", threadId=RUN)
+    return stopped["reason"], stopped.get("text"), adapter.moment(), info["exceptionId"], info.get("description")
 
 
 def console(checks, adapter, run):

@@ -1,5 +1,5 @@
 -- The state of a debug adapter, and how requests change it.
-use Rattle.std.specs.Prelude.{◌≡◌, ◌⊎◌, Bool, Option, Some, None, option_map, Result, MatchResult}
+use Rattle.std.specs.Prelude.{◌≡◌, ◌⊎◌, Bool, true, false, not, Option, Some, None, option_map, Result, MatchResult, OnOk}
 use Rattle.dap_messages.specs.declared.request.Request.{Request}
 use Rattle.dap_messages.specs.declared.request.Request.TheVariants as request
 use Rattle.dap_session.specs.declared.adapter.Phase.{Phase}
@@ -8,7 +8,7 @@ use Rattle.dap_session.specs.declared.answer.Asked.{Asked}
 use Rattle.serde_json.specs.declared.value.Value.{Value}
 use Rattle.dap_session.specs.declared.refusal.Refusal.{Refusal}
 use Rattle.dap_session.specs.declared.refusal.Refusal.TheVariants as refusal
-use Rattle.dap_session.specs.Moves.{Moves, started}
+use Rattle.dap_session.specs.Moves.{Moves, may_move, started}
 use Rattle.dap_session.specs.Runs.{RunState, walk_of}
 use Rattle.dap_session.specs.Shown.{Shows}
 
@@ -26,6 +26,14 @@ OwesOnlyALaunch p owed = (p ≡ phase.Launched → ⊥) → owed ≡ None
 -- The state with another run.
 abbrev pub with_run : AdapterState → Option RunState → AdapterState
 with_run s run = record s { run = run }
+
+-- Whether a request about the run is accepted in a phase: only after a launch, and one that may move
+-- the run only once it is configured.
+abbrev pub is_accepted : Phase → Request → Bool
+is_accepted phase.New request = false
+is_accepted phase.Initialized request = false
+is_accepted phase.Launched request = not (may_move request)
+is_accepted phase.Running request = true
 
 -- A request about the run moved it and showed the position, or was refused and changed nothing. Only a line of the console
 -- may have moved it before an allocation failed.
@@ -66,4 +74,6 @@ Handles s asked request.ConfigurationDone o s' =
 Handles s asked request.Disconnect o s' = s'.run ≡ s.run
 Handles s asked (request.Restart arguments) o s' =
     MatchResult o (λ _. (s.phase ≡ phase.Running) × IsRestarted s s') (λ _. s' ≡ s)
-Handles s asked req o s' = (s' ≡ with_run s s'.run) × RunReplies s.run req o s'.run
+Handles s asked req o s' =
+    (s' ≡ with_run s s'.run) × RunReplies s.run req o s'.run
+    × OnOk o (is_accepted s.phase req ≡ true)

@@ -1,4 +1,5 @@
 pub mod Runs
+pub mod Searches
 pub mod Moves
 pub mod Shown
 pub mod Owing

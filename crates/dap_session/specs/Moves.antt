@@ -1,6 +1,6 @@
 -- Where requests move a run: "Next Request", "StepBack Request", "Continue Request" and others of the
 -- Debug Adapter Protocol's specification.
-use Rattle.std.specs.Prelude.{◌≡◌, ℕ, ◌==◌, ◌||◌, List, Bool, if◌then◌else◌, Option, Some, None, is_some, unwrap_or}
+use Rattle.std.specs.Prelude.{◌≡◌, ℕ, ◌==◌, ◌||◌, List, Bool, true, false, if◌then◌else◌, Option, Some, None, is_some, unwrap_or}
 use Rattle.std.specs.List.{list_any}
 use Rattle.debug_server.specs.Replies.{reply}
 use Rattle.watches.specs.Stops.{forward_stop, reverse_stop}
@@ -14,6 +14,7 @@ use Rattle.stops.specs.declared.steps.EditorThread.{EditorThread}
 use Rattle.stops.specs.declared.steps.EditorThread.TheVariants.{Run}
 use Rattle.dap_messages.specs.declared.request.Context.{Context}
 use Rattle.dap_messages.specs.declared.request.Context.TheVariants as context
+use Rattle.dap_messages.specs.declared.request.ExceptionFilter.{ExceptionFilter}
 use Rattle.dap_messages.specs.declared.request.Granularity.{Granularity}
 use Rattle.dap_messages.specs.declared.request.Granularity.TheVariants as granularity
 use Rattle.dap_messages.specs.declared.request.Request.{Request}
@@ -21,6 +22,7 @@ use Rattle.dap_messages.specs.declared.request.Request.TheVariants as request
 use Rattle.dap_messages.specs.declared.request.StepArguments.{StepArguments}
 use Rattle.dap_views.specs.Threads.{thread_of}
 use Rattle.dap_session.specs.Runs.{RunState, walk_of, len_of, gone_to}
+use Rattle.dap_session.specs.Searches.{StopsAtFindings}
 
 -- The thread with a number. A request for another number is refused.
 abbrev pub thread_at : RunState → ℕ → EditorThread
@@ -82,6 +84,23 @@ commanded r line = record r {
   session = record { state = (reply r.session.state line None).next; is_closed = r.session.is_closed };
 }
 
+-- Whether an expression is a line of the console.
+abbrev pub is_console : Context → Bool
+is_console context.Repl = true
+is_console _ = false
+
+-- Whether a request may move the run: it steps, runs or jumps, or is a line of the console.
+abbrev pub may_move : Request → Bool
+may_move (request.Next a) = true
+may_move (request.StepIn a) = true
+may_move (request.StepOut a) = true
+may_move (request.StepBack a) = true
+may_move (request.Continue id) = true
+may_move (request.ReverseContinue id) = true
+may_move (request.Goto id target) = true
+may_move (request.Evaluate a) = is_console a.context
+may_move _ = false
+
 -- The run after an expression. Only the console's expressions may move it.
 abbrev pub Evaluates : RunState → Context → List ℕ → RunState → Type 0
 Evaluates r context.Repl line r' = r' ≡ commanded r line
@@ -94,6 +113,10 @@ SetsMarks r r' = r' ≡ record r { marks = r'.marks }
 
 abbrev pub SetsWatches : RunState → RunState → Type 0
 SetsWatches r r' = r' ≡ record r { watches = r'.watches }
+
+-- The run after a request that sets filters of its findings.
+abbrev pub SetsFindings : RunState → List ExceptionFilter → RunState → Type 0
+SetsFindings r filters r' = SetsMarks r r' × StopsAtFindings (walk_of r) filters r'.marks.findings
 
 -- The run after a request that succeeds. A request that only looks changes nothing.
 abbrev pub Moves : RunState → Request → RunState → Type 0
@@ -108,6 +131,6 @@ Moves r (request.Evaluate a) r' = Evaluates r a.context a.expression r'
 Moves r (request.SetBreakpoints a) r' = SetsMarks r r'
 Moves r (request.SetFunctionBreakpoints a) r' = SetsMarks r r'
 Moves r (request.SetInstructionBreakpoints a) r' = SetsMarks r r'
-Moves r (request.SetExceptionBreakpoints a) r' = SetsMarks r r'
+Moves r (request.SetExceptionBreakpoints a) r' = SetsFindings r a r'
 Moves r (request.SetDataBreakpoints a) r' = SetsWatches r r'
 Moves r _ r' = r' ≡ r

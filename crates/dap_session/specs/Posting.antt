@@ -60,28 +60,28 @@ abbrev pub event : Posted → List ℕ → Option Value → Data
 event before name body = event_value before.next name (option_map view body)
 
 -- An event. One that is too long is left out.
-abbrev pub Tells : Posted → List ℕ → Option Value → Posted → Type 0
-Tells before name body after =
+abbrev pub Emits : Posted → List ℕ → Option Value → Posted → Type 0
+Emits before name body after =
     Sends before after (event before name body)
     ⊎ (IsTooLong (event before name body) × (after ≡ before))
 
-abbrev pub TellsIfAny : Posted → List ℕ → Option Value → Posted → Type 0
-TellsIfAny before name None after = after ≡ before
-TellsIfAny before name (Some body) after = Tells before name (Some body) after
+abbrev pub EmitsIfAny : Posted → List ℕ → Option Value → Posted → Type 0
+EmitsIfAny before name None after = after ≡ before
+EmitsIfAny before name (Some body) after = Emits before name (Some body) after
 
-abbrev pub TellsIf : Bool → Posted → List ℕ → Posted → Type 0
-TellsIf false before name after = after ≡ before
-TellsIf true before name after = Tells before name None after
+abbrev pub EmitsIf : Bool → Posted → List ℕ → Posted → Type 0
+EmitsIf false before name after = after ≡ before
+EmitsIf true before name after = Emits before name None after
 
 -- The events, in order.
-pub record TellsAll (before : Posted) (events : Events) (after : Posted) : Type 0 where
+pub record EmitsAll (before : Posted) (events : Events) (after : Posted) : Type 0 where
   pub initialized : Posted
-  pub is_initialized : TellsIf events.initialized before (codes "initialized") initialized
+  pub is_initialized : EmitsIf events.initialized before (codes "initialized") initialized
   pub continued : Posted
-  pub is_continued : TellsIfAny initialized (codes "continued") events.continued continued
+  pub is_continued : EmitsIfAny initialized (codes "continued") events.continued continued
   pub output : Posted
-  pub is_output : TellsIfAny continued (codes "output") events.output output
-  pub is_stopped : TellsIfAny output (codes "stopped") events.stopped after
+  pub is_output : EmitsIfAny continued (codes "output") events.output output
+  pub is_stopped : EmitsIfAny output (codes "stopped") events.stopped after
 
 -- An answer: its responses, and the events after them.
 pub record Posts (before : Posted) (answer : Answer) (after : Posted) : Type 0 where
@@ -89,4 +89,4 @@ pub record Posts (before : Posted) (answer : Answer) (after : Posted) : Type 0 w
   pub is_first : RespondsIfAny before answer.first first
   pub second : Posted
   pub is_second : RespondsIfAny first answer.second second
-  pub events : TellsAll second answer.events after
+  pub events : EmitsAll second answer.events after

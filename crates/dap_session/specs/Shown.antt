@@ -20,9 +20,11 @@ use Rattle.dap_views.specs.Frames.{frame_of}
 use Rattle.dap_views.specs.Pages.{IsPage, excludes}
 use Rattle.dap_views.specs.Variables.{AreVariables}
 use Rattle.dap_views.specs.declared.container.Container.{Container}
+use Rattle.dap_views.specs.declared.container.Container.TheVariants.{Findings}
 use Rattle.dap_views.specs.declared.variable.Variable.{Variable}
 use Rattle.dap_session.specs.Moves.{thread_at}
 use Rattle.dap_session.specs.Runs.{RunState, walk_of}
+use Rattle.dap_session.specs.Searches.{AreReportsOf}
 
 abbrev pub IsBody : Option Value → Data → Type 0
 IsBody body d = option_map view body ≡ Some d
@@ -39,11 +41,12 @@ abbrev pub ShowsStack : Bool → RunState → EditorThread → Option Value → 
 ShowsStack true r t body = (frame : Data) × IsFrame r t frame × IsBody body (stack_body (frame ∷ []))
 ShowsStack false r t body = IsBody body (stack_body [])
 
--- A page of the variables of a container, at the position.
+-- A page of the variables of a container, at the position. Of the findings it lists those of the run.
 pub record ShowsVariables (r : RunState) (a : VariablesArguments) (body : Option Value) : Type 0 where
   pub container : Container
   pub is_container : container_of a.container ≡ Some container
   pub reports : List Report
+  pub are_listed : container ≡ Findings → AreReportsOf (walk_of r) reports
   pub variables : List Variable
   pub is_page : IsPage (excludes a.filter container) (AreVariables (walk_of r) reports container)
       (record { filter = a.filter; start = a.start; count = a.count }) variables

@@ -1,7 +1,7 @@
 //! The state of a debug adapter, and its answers to messages.
-ghost use Rattle.std.specs.Prelude.{◌≡◌, IfOk, OnOk, OnErr, None, Ok, MatchResult, option_map, true, false};
+ghost use Rattle.std.specs.Prelude.{◌≡◌, IfOk, OnOk, OnErr, None, Ok, MatchResult, option_map, is_ok, true, false};
 ghost use Rattle.serde_json.specs.View.{view};
-ghost use Rattle.dap_session.specs.Adapters.{Handles, IsRestarted, Launches, RunReplies, configured, with_run};
+ghost use Rattle.dap_session.specs.Adapters.{Handles, IsRestarted, Launches, RunReplies, configured, is_accepted, with_run};
 ghost use Rattle.dap_session.specs.Messages.{Announces, Answers, AnswersValue, EndsAt, EndsOnlyBy, asked_of, nobody};
 ghost use Rattle.dap_session.specs.Moves.{started};
 ghost use Rattle.dap_session.specs.Owing.{Settles, answered, asked_in, outcome_in, outcome_of, owed_by};
@@ -388,7 +388,9 @@ impl Adapter {
     }
 
     // Returns why a request about the run is refused now, if it is.
-    fn may_reply(&self, request: &Request) -> Result<(), Reason> {
+    fn may_reply(&self, request: &Request) -> Result<(), Reason>
+        ensures { is_ok result ≡ is_accepted self.now.phase request.now }
+    {
         match self.phase {
             Phase::New => Err(Reason::NotInitialized),
             Phase::Initialized => Err(Reason::NotLaunched),
@@ -401,6 +403,7 @@ impl Adapter {
     fn reply(&mut self, request: Request) -> Result<Reply, Refusal>
         ensures rest { self.new ≡ with_run self.old self.new.run }
         ensures run { RunReplies self.old.run request (outcome_of result) self.new.run }
+        ensures accepted { OnOk (outcome_of result) (is_accepted self.old.phase request ≡ true) }
     {
         match self.may_reply(&request) {
             Ok(()) => reply_of(&mut self.debuggee, request),

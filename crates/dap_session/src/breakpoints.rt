@@ -6,6 +6,7 @@ use crate::event_names::EventName;
 use crate::lines::{Located, Wish, event_line, events_between, items_between};
 use dap_messages::{FunctionBreakpoint, InstructionBreakpoint, SourceBreakpoint};
 use inverse_log::Walker;
+use machine::Event;
 use source_map::SourceMap;
 use std::alloc::{AllocError, Global};
 use stops::{Moments, Site, breakpoints};
@@ -62,36 +63,37 @@ fn add_lines(
     Ok(())
 }
 
-// Adds the events with a name.
-fn add_named(
-    sites: &mut Vec<Site>,
-    walker: &Walker,
-    name: EventName<'_>,
-) -> Result<(), AllocError> {
-    for (index, event) in walker.events().iter().enumerate() {
-        if name.names(*event) {
-            sites.push(Site::Event(index))?;
-        }
-    }
-    Ok(())
-}
-
 /// Returns the name of a breakpoint on events, if it has no condition.
-pub(crate) fn name_of(breakpoint: &FunctionBreakpoint) -> Option<EventName<'_>> {
+pub(crate) fn name_of(breakpoint: &FunctionBreakpoint) -> Option<EventName> {
     if breakpoint.condition.is_some() {
         return None;
     }
     EventName::read(breakpoint.name.as_str())
 }
 
-fn add_functions(
-    sites: &mut Vec<Site>,
-    walker: &Walker,
-    wanted: &[FunctionBreakpoint],
-) -> Result<(), AllocError> {
+// Returns the names of some breakpoints on events.
+fn names_of(alloc: Global, wanted: &[FunctionBreakpoint]) -> Result<Vec<EventName>, AllocError> {
+    let mut names = Vec::new(alloc);
     for breakpoint in wanted {
         if let Some(name) = name_of(breakpoint) {
-            add_named(sites, walker, name)?;
+            names.push(name)?;
+        }
+    }
+    Ok(names)
+}
+
+// Adds the events that have one of some names, each once.
+fn add_named(
+    sites: &mut Vec<Site>,
+    events: &[Event],
+    names: &[EventName],
+) -> Result<(), AllocError> {
+    if names.is_empty() {
+        return Ok(());
+    }
+    for (index, event) in events.iter().enumerate() {
+        if names.iter().any(|name| name.names(*event)) {
+            sites.push(Site::Event(index))?;
         }
     }
     Ok(())
@@ -137,7 +139,8 @@ pub(crate) fn moments_of(
 ) -> Result<Moments, AllocError> {
     let mut sites = Vec::new(alloc);
     add_lines(&mut sites, lines, source)?;
-    add_functions(&mut sites, lines.walker, functions)?;
+    let names = names_of(alloc, functions)?;
+    add_named(&mut sites, lines.walker.events(), &names)?;
     add_instructions(&mut sites, lines.walker, instructions)?;
     if sites.is_empty() {
         return Ok(Moments::new(alloc));

@@ -4,14 +4,12 @@ ghost use Rattle.watches.specs.Watchpoints.{nothing};
 ghost use Rattle.dap_session.specs.Runs.{walk_of};
 
 use crate::base::Base;
+use crate::searched::Searched;
 use crate::wanted::{Wanted, stops_at};
 use dap_messages::{Program, Text};
 use debug_server::Session;
-use explanations::{Report, reports_of};
-use findings::search_run;
+use explanations::Report;
 use inverse_log::Walker;
-use machine::State;
-use sentences::Run;
 use source_map::SourceMap;
 use std::alloc::{AllocError, Global};
 use std::marker::Model;
@@ -21,7 +19,7 @@ use watches::Watches;
 /// A run that is debugged.
 pub(crate) struct Debuggee {
     pub(crate) alloc: Global,
-    pub(crate) session: Session,
+    pub(crate) searched: Searched,
     pub(crate) base: Base,
     /// The path of the script or the trace.
     pub(crate) path: Text,
@@ -33,8 +31,6 @@ pub(crate) struct Debuggee {
     pub(crate) watches: Watches,
     /// The moments of the other breakpoints, and of the findings at which the run stops.
     pub(crate) marks: Marks,
-    /// The findings, once something needs them.
-    reports: Option<Vec<Report>>,
 }
 
 // Written by hand, so that dropping it is one step of a proof.
@@ -42,14 +38,13 @@ impl Drop for Debuggee {
     fn drop(self) {
         let Debuggee {
             alloc: _,
-            session: _,
+            searched: _,
             base: _,
             path: _,
             map: _,
             wanted: _,
             watches: _,
             marks: _,
-            reports: _,
         } = self;
     }
 }
@@ -58,33 +53,16 @@ fn is_at(report: &Report, moment: usize) -> bool {
     report.finding.moment as usize == moment
 }
 
-// Runs a run again, and returns its findings.
-fn reports_on(alloc: Global, walker: &Walker) -> Result<Vec<Report>, AllocError> {
-    // For the proof: how many events a run has at most.
-    let _len = walker.len();
-    let (setup, events) = (walker.setup(), walker.events());
-    let Ok(mut state) = State::new(alloc, setup) else {
-        return Err(AllocError);
-    };
-    let Ok(found) = search_run(alloc, &mut state, setup, events) else {
-        return Err(AllocError);
-    };
-    let run = Run {
-        setup,
-        state: &state,
-        events,
-        history: &found.history,
-        found: &found.findings,
-    };
-    reports_of(alloc, &run)
-}
-
 impl Model for Debuggee {
     ghost use Rattle.dap_session.specs.Runs.{RunState};
 
     ghost Value = { RunState };
 
-    ghost view = { λ d. record { session = d.session; watches = d.watches; marks = d.marks } };
+    ghost view = { λ d. record {
+      session = d.searched.session;
+      watches = d.watches;
+      marks = d.marks;
+    } };
 }
 
 impl Debuggee {
@@ -104,7 +82,7 @@ impl Debuggee {
     {
         Debuggee {
             alloc,
-            session,
+            searched: Searched::new(alloc, session),
             base,
             path,
             map,
@@ -114,7 +92,6 @@ impl Debuggee {
                 breakpoints: Moments::new(alloc),
                 findings: Moments::new(alloc),
             },
-            reports: None,
         }
     }
 
@@ -130,33 +107,23 @@ impl Debuggee {
     pub(crate) fn walker(&self) -> &Walker
         ensures { result.now ≡ walk_of self.now }
     {
-        self.session.walker()
+        self.searched.walker()
     }
 
     /// Searches the run for findings, unless that was done.
     pub(crate) fn search(&mut self) -> Result<(), AllocError>
         ensures { self.new ≡ self.old }
     {
-        if self.reports.is_none() {
-            self.reports = Some(reports_on(self.alloc, self.session.walker())?);
-        }
-        Ok(())
-    }
-
-    /// Returns the findings, if the run was searched.
-    pub(crate) fn reports(&self) -> &[Report] {
-        match &self.reports {
-            Some(reports) => reports.as_slice(),
-            None => &[],
-        }
+        self.searched.search()
     }
 
     /// Returns the first finding at a moment, if the run was searched: of those at which the editor
     /// stops, if there is one.
     pub(crate) fn report_at(&self, moment: usize) -> Option<&Report> {
         let filters = self.wanted.filters.as_slice();
-        let wanted = self.reports().iter().find(|report| is_at(report, moment)
+        let reports = self.searched.reports();
+        let wanted = reports.iter().find(|report| is_at(report, moment)
             && stops_at(filters, report));
-        wanted.or(self.reports().iter().find(|report| is_at(report, moment)))
+        wanted.or(reports.iter().find(|report| is_at(report, moment)))
     }
 }

@@ -3,31 +3,48 @@
 use machine::Event;
 use scenario::read_number;
 
+/// The kind of an event.
+#[derive(Clone, Copy, PartialEq, Eq)]
+enum Word {
+    Step,
+    Take,
+    Sleep,
+    Issue,
+    Finish,
+    Expire,
+    Tick,
+}
+
 /// A name of events: a word, and a number if only some events are meant.
 #[derive(Clone, Copy)]
-pub(crate) struct EventName<'a> {
-    word: &'a str,
+pub(crate) struct EventName {
+    word: Word,
     number: Option<u32>,
 }
 
-// Returns whether a word names a kind of event.
-fn is_word(word: &str) -> bool {
+// Returns the kind of event that a word names.
+fn read_word(word: &str) -> Option<Word> {
     match word {
-        "step" | "take" | "sleep" | "issue" | "finish" | "expire" | "tick" => true,
-        _ => false,
+        "step" => Some(Word::Step),
+        "take" => Some(Word::Take),
+        "sleep" => Some(Word::Sleep),
+        "issue" => Some(Word::Issue),
+        "finish" => Some(Word::Finish),
+        "expire" => Some(Word::Expire),
+        "tick" => Some(Word::Tick),
+        _ => None,
     }
 }
 
-// Returns the word of an event.
-fn word_of(event: Event) -> &'static str {
+fn word_of(event: Event) -> Word {
     match event {
-        Event::Step(_) => "step",
-        Event::Take(_) => "take",
-        Event::Sleep => "sleep",
-        Event::Issue(_) => "issue",
-        Event::Finish(_, _) => "finish",
-        Event::Expire(_) => "expire",
-        Event::Tick(_) => "tick",
+        Event::Step(_) => Word::Step,
+        Event::Take(_) => Word::Take,
+        Event::Sleep => Word::Sleep,
+        Event::Issue(_) => Word::Issue,
+        Event::Finish(_, _) => Word::Finish,
+        Event::Expire(_) => Word::Expire,
+        Event::Tick(_) => Word::Tick,
     }
 }
 
@@ -44,9 +61,9 @@ fn number_of(event: Event) -> Option<u64> {
     }
 }
 
-impl<'a> EventName<'a> {
+impl EventName {
     /// Reads a name, such as `finish 2` or `sleep`.
-    pub(crate) fn read(name: &'a str) -> Option<EventName<'a>> {
+    pub(crate) fn read(name: &str) -> Option<EventName> {
         let (word, number) = match name.split_once(' ') {
             Some((word, number)) => match read_number(number.as_bytes()) {
                 Some(number) => (word, Some(number)),
@@ -54,10 +71,10 @@ impl<'a> EventName<'a> {
             },
             None => (name, None),
         };
-        if !is_word(word) {
-            return None;
+        match read_word(word) {
+            Some(word) => Some(EventName { word, number }),
+            None => None,
         }
-        Some(EventName { word, number })
     }
 
     /// Returns whether an event has this name.

@@ -19,6 +19,7 @@ mod moving;
 mod outbox;
 mod refusal;
 mod replying;
+mod searched;
 mod serving;
 mod setting;
 mod sourcing;

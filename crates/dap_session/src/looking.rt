@@ -13,8 +13,8 @@ use crate::members::{Members, object_of};
 use crate::refusal::{Reason, Refusal};
 use dap_messages::{DataBreakpointInfoArguments, StackTraceArguments, VariablesArguments};
 use dap_views::{
-    Container, Page, container_of, evaluate, evaluate_body, frame_of, frame_value, place_named,
-    scopes_body, stack_body, threads_body, variables, variables_body,
+    Page, container_of, evaluate, evaluate_body, frame_of, frame_value, place_named, scopes_body,
+    stack_body, threads_body, variables, variables_body,
 };
 use machine::Event;
 use serde_json::Value;
@@ -127,15 +127,14 @@ impl Debuggee {
         let Some(container) = container_of(arguments.container) else {
             return Err(Refusal::Reason(Reason::NoContainer));
         };
-        if container == Container::Findings {
-            self.search()?;
-        }
+        self.searched.search_for(container)?;
         let page = Page {
             filter: arguments.filter,
             start: arguments.start,
             count: arguments.count,
         };
-        let found = variables(self.alloc, self.walker(), self.reports(), container, page)?;
+        let reports = self.searched.reports();
+        let found = variables(self.alloc, self.walker(), reports, container, page)?;
         let body = variables_body(self.alloc, found.as_slice())?;
         Ok(Reply::of(Some(body)))
     }

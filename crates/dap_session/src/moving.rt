@@ -121,7 +121,7 @@ impl Debuggee {
 
     // Returns the lines that the log has of the event before the position.
     fn stepped_text(&self) -> Result<Option<String>, AllocError> {
-        let walker = self.session.walker();
+        let walker = self.searched.walker();
         let Some(index) = walker.at().checked_sub(1) else {
             return Ok(None);
         };
@@ -166,7 +166,7 @@ impl Debuggee {
             return Err(Refusal::Reason(Reason::NoTarget));
         }
         let is_forward = self.walker().at() < moment;
-        self.session.jump(moment)?;
+        self.searched.jump(moment)?;
         let output = if is_forward { self.output() } else { None };
         Ok(Reply {
             body,
@@ -285,7 +285,7 @@ impl Debuggee {
         ensures err { OnErr result (self.new ≡ self.old) }
     {
         let body = all_continued(self.alloc)?;
-        let walker = self.session.walker();
+        let walker = self.searched.walker();
         let watched = watched_moment(later(walker, &self.watches)?);
         let landing = forward(&self.marks, watched, walker.at(), walker.len());
         let event = match landing.cause {
@@ -303,7 +303,7 @@ impl Debuggee {
         ensures moved { OnOk result (self.new ≡ gone_to self.old (backward_moment self.old)) }
         ensures err { OnErr result (self.new ≡ self.old) }
     {
-        let walker = self.session.walker();
+        let walker = self.searched.walker();
         let watched = watched_moment(earlier(walker, &self.watches));
         let landing = backward(&self.marks, watched, walker.at());
         let event = match landing.cause {
@@ -364,7 +364,7 @@ impl Debuggee {
         let stopped = self.stopped(Why::Goto, EditorThread::Run, None)?;
         let continued = continued(self.alloc)?;
         let before = self.walker().at();
-        let text = self.session.line(line.as_bytes(), None)?;
+        let text = self.searched.line(line.as_bytes())?;
         let has_moved = self.walker().at() != before;
         let text = String::from_utf8_lossy(self.alloc, text.as_slice())?;
         let mut members = Members::new(self.alloc);

@@ -4,7 +4,7 @@ ghost use Rattle.serde_json.specs.View.{view};
 ghost use Rattle.serde_json.specs.Written.{has_float, compact_text};
 ghost use Rattle.dap_frames.specs.Decoding.{frame};
 ghost use Rattle.dap_messages.specs.Messages.{error_value};
-ghost use Rattle.dap_session.specs.Posting.{IsTooLong, Posts, Refuses, Responds, RespondsBy, RespondsIfAny, Sends, Tells, TellsAll, TellsIf, TellsIfAny};
+ghost use Rattle.dap_session.specs.Posting.{Emits, EmitsAll, EmitsIf, EmitsIfAny, IsTooLong, Posts, Refuses, Responds, RespondsBy, RespondsIfAny, Sends};
 
 use crate::answer::{Answer, Asked, Events, Response};
 use crate::refusal::{Reason, Refusal};
@@ -143,8 +143,8 @@ impl Outbox {
     }
 
     // Adds an event. One that is too long is left out.
-    fn tell(&mut self, name: &str, body: Option<Value>) -> Result<(), AllocError>
-        ensures { OnOk result (Tells self.old name.now body self.new) }
+    fn emit(&mut self, name: &str, body: Option<Value>) -> Result<(), AllocError>
+        ensures { OnOk result (Emits self.old name.now body self.new) }
     {
         let message = event(self.alloc, self.next, name, body)?;
         match framed(self.alloc, &message) {
@@ -155,28 +155,28 @@ impl Outbox {
     }
 
     // Adds an event, if it has a body.
-    fn tell_of(&mut self, name: &str, body: Option<Value>) -> Result<(), AllocError>
-        ensures { OnOk result (TellsIfAny self.old name.now body self.new) }
+    fn emit_if_any(&mut self, name: &str, body: Option<Value>) -> Result<(), AllocError>
+        ensures { OnOk result (EmitsIfAny self.old name.now body self.new) }
     {
         match body {
-            Some(body) => self.tell(name, Some(body)),
+            Some(body) => self.emit(name, Some(body)),
             None => Ok(()),
         }
     }
 
     // Adds an event without a body, if `is_due`.
-    fn tell_if(&mut self, is_due: bool, name: &str) -> Result<(), AllocError>
-        ensures { OnOk result (TellsIf is_due self.old name.now self.new) }
+    fn emit_if(&mut self, is_due: bool, name: &str) -> Result<(), AllocError>
+        ensures { OnOk result (EmitsIf is_due self.old name.now self.new) }
     {
         if is_due {
-            self.tell(name, None)
+            self.emit(name, None)
         } else {
             Ok(())
         }
     }
 
-    fn tell_all(&mut self, events: Events) -> Result<(), AllocError>
-        ensures { OnOk result (TellsAll self.old events self.new) }
+    fn emit_all(&mut self, events: Events) -> Result<(), AllocError>
+        ensures { OnOk result (EmitsAll self.old events self.new) }
     {
         let Events {
             initialized,
@@ -184,10 +184,10 @@ impl Outbox {
             output,
             stopped,
         } = events;
-        self.tell_if(initialized, "initialized")?;
-        self.tell_of("continued", continued)?;
-        self.tell_of("output", output)?;
-        self.tell_of("stopped", stopped)?;
+        self.emit_if(initialized, "initialized")?;
+        self.emit_if_any("continued", continued)?;
+        self.emit_if_any("output", output)?;
+        self.emit_if_any("stopped", stopped)?;
         Ok(())
     }
 
@@ -213,7 +213,7 @@ impl Outbox {
         } = answer;
         self.respond_if_any(first)?;
         self.respond_if_any(second)?;
-        self.tell_all(events)?;
+        self.emit_all(events)?;
         Ok(ends)
     }
 }

@@ -1,6 +1,6 @@
 //! Replies to the requests about a run.
 ghost use Rattle.std.specs.Prelude.{◌≡◌, ◌⊎◌, IfOk, OnOk, OnErr, IfErr};
-ghost use Rattle.dap_session.specs.Moves.{Evaluates, Moves, forward_moment, backward_moment};
+ghost use Rattle.dap_session.specs.Moves.{Evaluates, Moves, forward_moment, backward_moment, is_console, may_move};
 ghost use Rattle.dap_session.specs.Runs.{gone_to};
 ghost use Rattle.dap_session.specs.Shown.{Shows, ShowsValue};
 
@@ -9,8 +9,20 @@ use crate::debuggee::Debuggee;
 use crate::refusal::{Reason, Refusal};
 use dap_messages::{Context, EvaluateArguments, Request};
 
+// Returns whether an expression is a line of the console.
+fn is_console(context: Context) -> bool
+    ensures { result ≡ is_console context }
+{
+    match context {
+        Context::Repl => true,
+        Context::Watch | Context::Hover | Context::Other => false,
+    }
+}
+
 /// Returns whether a request moves, or may move.
-pub(crate) fn moves(request: &Request) -> bool {
+pub(crate) fn moves(request: &Request) -> bool
+    ensures { result ≡ may_move request.now }
+{
     match request {
         Request::Next(_)
         | Request::StepIn(_)
@@ -18,13 +30,8 @@ pub(crate) fn moves(request: &Request) -> bool {
         | Request::StepBack(_)
         | Request::Continue(_)
         | Request::ReverseContinue(_)
-        | Request::Goto(_, _)
-        | Request::Evaluate(
-            EvaluateArguments {
-                context: Context::Repl,
-                ..
-            },
-        ) => true,
+        | Request::Goto(_, _) => true,
+        Request::Evaluate(arguments) => is_console(arguments.context),
         _ => false,
     }
 }

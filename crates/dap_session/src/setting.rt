@@ -1,5 +1,7 @@
 //! The requests that set breakpoints.
-ghost use Rattle.std.specs.Prelude.{◌≡◌, OnErr};
+ghost use Rattle.std.specs.Prelude.{◌≡◌, IfOk, OnErr, OnOk, filter, map};
+ghost use Rattle.dap_session.specs.Moves.{SetsFindings};
+ghost use Rattle.dap_session.specs.Searches.{finding_moments, moment_in, stops_at};
 
 use crate::answer::Reply;
 use crate::breakpoints::{Lines, moment_of, moments_of, name_of};
@@ -209,26 +211,38 @@ pub(crate) fn data_of(
     Ok((watches, body))
 }
 
+// Returns the moments of the findings that pass a filter, in the order of the findings.
+fn passing_moments(
+    alloc: Global,
+    reports: &[Report],
+    filters: &[ExceptionFilter],
+) -> Result<Vec<usize>, AllocError>
+    ensures { IfOk result (λ ms. ms.items
+        ≡ map moment_in (filter (stops_at filters.now) reports.now)) }
+{
+    reports
+        .iter()
+        .filter(|report| stops_at(filters, report))
+        .map(|report| report.finding.moment as usize)
+        .collect(alloc)
+}
+
 /// Returns the moments of the findings at which a run stops.
 pub(crate) fn finding_moments(
     alloc: Global,
     reports: &[Report],
     filters: &[ExceptionFilter],
-) -> Result<Moments, AllocError> {
-    let mut moments = Vec::new(alloc);
-    for report in reports {
-        if stops_at(filters, report) {
-            moments.push(report.finding.moment as usize)?;
-        }
-    }
-    Ok(Moments::from_vec(moments))
+) -> Result<Moments, AllocError>
+    ensures { IfOk result (λ ms. ms ≡ finding_moments filters.now reports.now) }
+{
+    Ok(Moments::from_vec(passing_moments(alloc, reports, filters)?))
 }
 
 impl Debuggee {
     pub(crate) fn lines(&self) -> Lines<'_> {
         Lines {
             map: self.map.as_ref(),
-            walker: self.session.walker(),
+            walker: self.searched.walker(),
             base: self.base,
         }
     }
@@ -323,6 +337,7 @@ impl Debuggee {
         wanted: Items<ExceptionFilter>,
     ) -> Result<Reply, Refusal>
         ensures kept { self.new ≡ record self.old { marks = self.new.marks } }
+        ensures stops { OnOk result (SetsFindings self.old wanted self.new) }
         ensures err { OnErr result (self.new ≡ self.old) }
     {
         if wanted.is_empty() {
@@ -330,13 +345,16 @@ impl Debuggee {
             self.wanted.filters = wanted;
             return Ok(Reply::of(None));
         }
-        self.search()?;
-        self.marks.findings = finding_moments(self.alloc, self.reports(), wanted.as_slice())?;
+        self.searched.search()?;
+        let reports = self.searched.reports();
+        let moments = finding_moments(self.alloc, reports, wanted.as_slice())?;
+        self.marks.findings = moments;
         self.wanted.filters = wanted;
         Ok(Reply::of(None))
     }
 
-    /// Sets the breakpoints that the editor set for an earlier run.
+    /// Sets the breakpoints that the editor set for an earlier run. Only their filters are kept:
+    /// where the run stops at findings, they choose the one that it names.
     pub(crate) fn set_all(&mut self, wanted: &Wanted) -> Result<(), Refusal>
         ensures { self.new.session ≡ self.old.session }
     {
@@ -349,12 +367,13 @@ impl Debuggee {
         )?;
         let (watches, _body) = data_of(self.alloc, self.walker(), wanted.data.as_slice())?;
         self.watches = watches;
+        self.wanted.filters = wanted.filters.copy(self.alloc)?;
         if wanted.filters.is_empty() {
             return Ok(());
         }
         self.search()?;
-        let filters = wanted.filters.as_slice();
-        self.marks.findings = finding_moments(self.alloc, self.reports(), filters)?;
+        let (reports, filters) = (self.searched.reports(), wanted.filters.as_slice());
+        self.marks.findings = finding_moments(self.alloc, reports, filters)?;
         Ok(())
     }
 }

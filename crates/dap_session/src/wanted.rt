@@ -1,9 +1,12 @@
 //! The breakpoints that an editor set.
+ghost use Rattle.std.specs.Prelude.{◌≡◌};
+ghost use Rattle.dap_session.specs.Searches.{passes, stops_at};
 
 use dap_messages::{
     DataBreakpoint, ExceptionFilter, FunctionBreakpoint, InstructionBreakpoint, SourceBreakpoint,
 };
 use explanations::Report;
+use finding_kinds::Finding;
 use places::Items;
 use std::alloc::Global;
 
@@ -30,11 +33,21 @@ impl Wanted {
     }
 }
 
+// Returns whether a finding passes a filter.
+fn passes(finding: &Finding, filter: ExceptionFilter) -> bool
+    ensures { result ≡ passes finding.now filter }
+{
+    match filter {
+        ExceptionFilter::Faults => finding.kind.is_fault(),
+        ExceptionFilter::Notes => !finding.kind.is_fault(),
+    }
+}
+
 /// Returns whether a finding is one at which a run stops.
-pub(crate) fn stops_at(filters: &[ExceptionFilter], report: &Report) -> bool {
-    let is_fault = report.finding.kind.is_fault();
-    filters.iter().any(|filter| match filter {
-        ExceptionFilter::Faults => is_fault,
-        ExceptionFilter::Notes => !is_fault,
-    })
+pub(crate) fn stops_at(filters: &[ExceptionFilter], report: &Report) -> bool
+    ensures { result ≡ stops_at filters.now report.now }
+{
+    filters
+        .iter()
+        .any(|filter| passes(&report.finding, *filter))
 }

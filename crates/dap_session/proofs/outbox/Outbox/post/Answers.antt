@@ -7,5 +7,5 @@ returns-clause-posted c = record {
   is_first = c.in_ok-respond_if_any.ensures;
   second = c.respond_if_any-2.new.self;
   is_second = c.in_ok-respond_if_any-2.ensures;
-  events = c.in_ok-tell_all.ensures;
+  events = c.in_ok-emit_all.ensures;
 }
