@@ -11,12 +11,12 @@ pub use Rattle.bit_sets.specs.Sets.{has, IsNext, NoneFrom}
 pub use Rattle.entries.specs.declared.entry.Sqe.{Sqe}
 pub use Rattle.entries.specs.declared.row.Phase.TheVariants.{Ended, Queued, Issued}
 pub use Rattle.entries.specs.declared.row.Row.{Row}
-pub use Rattle.links_drains.specs.Batches.{rows_of, direct_result, chain_of, error_at, row_of, error_of, errors_of, direct_of, previous_in, target_of, up_to_failure, taken_of, halts, shown_on, error_in, Submitted, chain_fails}
+pub use Rattle.links_drains.specs.Batches.{rows_of, direct_result, chain_of, error_at, row_of, error_of, errors_of, direct_of, previous_in, target_of, taken_of, halts, shown_on, error_in, Submitted, chain_fails}
 pub use Rattle.links_drains.specs.Counts.{has_count, threshold_in, threshold_of, is_met, IsNextMet, NoneMetFrom}
 pub use Rattle.links_drains.specs.Endings.{endings_from, result_in, paired, Direct, Ending, endings, ended_by, ecanceled, given, or_else}
 pub use Rattle.links_drains.specs.Finders.{Findable, NoHolder, HasPlace, IsMarked, NoUser, hash_of, holds_now, mark_of, row_hash}
 pub use Rattle.links_drains.specs.Holding.{holders_of, holds, is_held_by, Tallied, is_number}
-pub use Rattle.links_drains.specs.Indexes.{Indexed, Forgotten, HasRoom, HasThresholds, IndexedBut, Cleared, Unreached}
+pub use Rattle.links_drains.specs.Indexes.{Indexed, Forgotten, HasRoom, IndexedBut, Cleared, Unreached}
 pub use Rattle.links_drains.specs.Links.{Chained, has_drain_flag, ChainContinues, is_linked, is_guard}
 pub use Rattle.links_drains.specs.Numbered.{IsNextWhere, NoneWhere, map_numbered, next_where}
 pub use Rattle.links_drains.specs.Phases.{is_unfinished, is_queued, is_issued, is_ended, counts, counted_of, ended_of}

@@ -15,8 +15,8 @@ use std::alloc::AllocError;
 use timeouts_cancel::{count, fall, falls_alone};
 
 impl Machine {
-    /// Completes the requests in `direct` and their cascade. Most cascades are empty: then no list is
-    /// made.
+    /// Completes the requests in `direct` and their cascade. Most cascades are empty, and then no
+    /// list is made.
     #[tactic(auto, unfolding(crate::specs::Steps::cascaded))]
     pub(crate) fn cascade(
         &mut self,

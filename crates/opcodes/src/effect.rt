@@ -22,14 +22,38 @@ pub enum Effect {
     ReadFile(Transfer),
     /// Bytes of memory are written to a file.
     WriteFile(Transfer),
-    /// This many of a pipe's oldest bytes move to an address.
-    TakePipe(u32, u32, u32),
-    /// This many bytes from an address are written to a pipe.
-    PutPipe(u32, u32, u32),
-    /// The counter of an eventfd is read to an address, and reset to 0.
-    ClearEvent(u32, u32),
+    /// The oldest bytes of a pipe move to memory.
+    TakePipe {
+        /// The number of the pipe.
+        object: u32,
+        /// How many bytes move.
+        count: u32,
+        /// Where they begin in memory.
+        address: u32,
+    },
+    /// Bytes of memory are written to a pipe.
+    PutPipe {
+        /// The number of the pipe.
+        object: u32,
+        /// How many bytes are written.
+        count: u32,
+        /// Where they begin in memory.
+        address: u32,
+    },
+    /// The counter of an eventfd is read into memory, and reset to 0.
+    ClearEvent {
+        /// The number of the eventfd.
+        object: u32,
+        /// Where its eight bytes begin in memory.
+        address: u32,
+    },
     /// A number is added to the counter of an eventfd.
-    AddEvent(u32, u64),
+    AddEvent {
+        /// The number of the eventfd.
+        object: u32,
+        /// What is added.
+        number: u64,
+    },
 }
 
 /// A transfer of bytes between a file and memory.
@@ -62,10 +86,18 @@ pub fn carry_out(world: &mut World, effect: Effect, notes: &mut Recorder) -> Res
         Effect::SyncFile(object) => world.sync(object, notes),
         Effect::ReadFile(transfer) => read_bytes(world, &transfer, notes),
         Effect::WriteFile(transfer) => write_bytes(world, &transfer, notes),
-        Effect::TakePipe(object, count, address) => world.take_pipe(object, count, address, notes),
-        Effect::PutPipe(object, count, address) => world.put_pipe(object, count, address, notes),
-        Effect::ClearEvent(object, address) => world.clear_event(object, address, notes),
-        Effect::AddEvent(object, number) => world.add_event(object, number, notes),
+        Effect::TakePipe {
+            object,
+            count,
+            address,
+        } => world.take_pipe(object, count, address, notes),
+        Effect::PutPipe {
+            object,
+            count,
+            address,
+        } => world.put_pipe(object, count, address, notes),
+        Effect::ClearEvent { object, address } => world.clear_event(object, address, notes),
+        Effect::AddEvent { object, number } => world.add_event(object, number, notes),
     }
 }
 

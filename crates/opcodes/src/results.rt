@@ -75,7 +75,7 @@ fn mask_of_descriptor(world: &World, held: &Held, row: &Row) -> u32
 }
 
 /// Returns the file position of a descriptor, or 0 if it has none.
-pub(crate) fn position_of(descriptor: Option<DescriptorState>) -> u64
+fn position_of(descriptor: Option<DescriptorState>) -> u64
     ensures { result ≡ position_of descriptor }
 {
     match descriptor {
@@ -126,7 +126,7 @@ fn passes_memory(entry: &Sqe) -> bool
 }
 
 /// Returns whether a transfer uses the file position.
-pub(crate) fn is_at_position(entry: &Sqe) -> bool
+fn is_at_position(entry: &Sqe) -> bool
     ensures { result ≡ is_at_position entry.now }
 {
     entry.off == u64::MAX
@@ -139,7 +139,7 @@ fn is_bad_offset(entry: &Sqe) -> bool
 }
 
 /// Returns the offset at which a transfer begins.
-pub(crate) fn offset_of(entry: &Sqe, position: u64) -> u64
+fn offset_of(entry: &Sqe, position: u64) -> u64
     ensures { result ≡ offset_of entry.now position }
 {
     if is_at_position(entry) {
@@ -236,13 +236,20 @@ fn read(
             let outcome = pipe_read(entry.len, world.has_writer(object, held), filled, choice);
             match outcome.count() {
                 Some(0) | None => (outcome, Effect::Nothing),
-                Some(n) => (outcome, Effect::TakePipe(object, n, address)),
+                Some(count) => (
+                    outcome,
+                    Effect::TakePipe {
+                        object,
+                        count,
+                        address,
+                    },
+                ),
             }
         }
         Some(Stock::EventFd(counter)) => {
             let outcome = event_read(entry.len, counter, choice);
             match outcome.count() {
-                Some(_) => (outcome, Effect::ClearEvent(object, address)),
+                Some(_) => (outcome, Effect::ClearEvent { object, address }),
                 None => (outcome, Effect::Nothing),
             }
         }
@@ -288,7 +295,14 @@ fn write(
             let outcome = pipe_written(entry.len, reader, filled, capacity, choice);
             match outcome.count() {
                 Some(0) | None => (outcome, Effect::Nothing),
-                Some(n) => (outcome, Effect::PutPipe(object, n, address)),
+                Some(count) => (
+                    outcome,
+                    Effect::PutPipe {
+                        object,
+                        count,
+                        address,
+                    },
+                ),
             }
         }
         Some(Stock::EventFd(counter)) => add(world, entry, object, counter, choice),
@@ -311,7 +325,7 @@ fn add(world: &World, entry: &Sqe, object: u32, counter: u64, choice: Choice) ->
     let number = world.number_at(entry.addr as u32);
     let outcome = event_written(counter, number, choice);
     match outcome.count() {
-        Some(_) => (outcome, Effect::AddEvent(object, number)),
+        Some(_) => (outcome, Effect::AddEvent { object, number }),
         None => (outcome, Effect::Nothing),
     }
 }
