@@ -23,7 +23,7 @@ use std::io::{Read, Write};
 use traces::{TraceFault, read_trace2};
 
 /// Reads a trace of the second form, runs its events from its setup, and replies to the reader's
-/// lines.
+/// lines. The session's memory isn't freed: a program ends after the last reply.
 pub fn replay<R: Read, W: Write>(
     alloc: Global,
     trace: &[u8],

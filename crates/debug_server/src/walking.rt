@@ -22,7 +22,8 @@ use std::alloc::Global;
 use std::io::{Read, Write};
 use std::mem;
 
-/// Reads a script, runs its schedule, and replies to the reader's lines.
+/// Reads a script, runs its schedule, and replies to the reader's lines. The session's memory isn't
+/// freed: a program ends after the last reply.
 pub fn walk<R: Read, W: Write>(
     alloc: Global,
     text: &[u8],
@@ -91,7 +92,8 @@ fn walk_script<R: Read, W: Write>(
     walk_events(alloc, script.setup(), script.schedule(), reader, writer)
 }
 
-/// Runs events from the start of a setup, and replies to the reader's lines.
+/// Runs events from the start of a setup, and replies to the reader's lines. The session's memory
+/// isn't freed: a program ends after the last reply.
 pub fn walk_events<R: Read, W: Write>(
     alloc: Global,
     setup: &Setup,
@@ -122,7 +124,7 @@ pub fn walk_events<R: Read, W: Write>(
     reply_to_all(session, reader, writer)
 }
 
-/// Replies to the reader's lines, without a source. The program ends after the last of them, so the
+/// Replies to the reader's lines, without a source. A program ends after the last of them, so the
 /// session is forgotten, which takes no time, and not freed record by record.
 pub(crate) fn reply_to_all<R: Read, W: Write>(
     session: Session,

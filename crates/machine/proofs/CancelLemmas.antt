@@ -1,8 +1,9 @@
 -- A cancellation completes unfinished requests, by ascending number.
-use Rattle.std.proofs.Common.{◌≡◌, ℕ, zero, suc, Bool, true, false, not, cond, refl, sym, ◌∙◌, ap, subst, List, [], ◌∷◌, ◌++◌, length, map, ◌+◌, ◌<◌, ◌≤◌, le_refl, arith}
-use Rattle.machine.proofs.Common.{Option, Some, slice_get, ◌==◌, ◌&&◌, nat_lt, if◌then◌else◌, filter, enumerate_from, slice_get_within, Sqe, Row, Phase, WorldState, is_running, Ending, ecanceled, Direct, is_guard, is_ended, is_issued, is_unfinished, enumerated, Verdict, on_found, verdict_of, canceled, ending_with}
+use Rattle.std.proofs.Common.{◌≡◌, ℕ, pos, zero, suc, Bool, true, false, not, cond, refl, sym, ◌∙◌, ap, subst, List, [], ◌∷◌, ◌++◌, length, map, ◌+◌, ◌<◌, ◌≤◌, le_refl, arith}
+use Rattle.machine.proofs.Common.{Option, Some, None, slice_get, ◌==◌, ◌&&◌, nat_lt, if◌then◌else◌, filter, enumerate_from, slice_get_within, Sqe, Row, Phase, WorldState, is_running, Ending, ecanceled, Direct, is_guard, is_ended, is_issued, is_unfinished, enumerated, Verdict, key_of, takes_all, on_found, on_all, verdict_of, canceled, ending_with}
 use Rattle.timeouts_cancel.specs.declared.matching.Key.{Key}
-use Rattle.timeouts_cancel.specs.declared.matching.Found.TheVariants.{Running, Waiting}
+use Rattle.timeouts_cancel.specs.declared.matching.Found.TheVariants.{Absent, Running, Waiting}
+use Rattle.timeouts_cancel.specs.declared.matching.Found.{Found}
 use Rattle.timeouts_cancel.specs.Matches.{fits_key, is_match, matches_of, found_by, found_first, is_waiting_match, waiting_by}
 use Rattle.timeouts_cancel.proofs.Severing.{both}
 
@@ -113,6 +114,10 @@ passing {X} test (y ∷ ys) i x h = by (test y) refl i h (λ k g. passing test y
 first_there : (rows : List Row) (test : ℕ × Row → Bool) (p : ℕ × Row) → slice_get (filter test (enumerate_from 0 rows)) 0 ≡ Some p → (slice_get rows p.0 ≡ Some p.1) × (test p ≡ true)
 first_there = grind (arith, passing, enumerated)
 
+negated : (b : Bool) → not b ≡ true → b ≡ false
+negated true h = absurd cc
+negated false h = refl
+
 issued_open : (p : Phase) → is_issued p ≡ true → is_unfinished p ≡ true
 issued_open = grind arith
 
@@ -140,6 +145,48 @@ others_of = grind (arith, others_waiting, others_found)
 -- A cancellation and the requests that it cancels are valid direct completions.
 pub direct_cancel : (rows : List Row) (w : WorldState) (me : ℕ) (entry : Sqe) (x : Row) → slice_get rows me ≡ Some x → is_ended x.phase ≡ false → Direct rows (ending_with me (verdict_of rows w me entry))
 direct_cancel rows w me entry x e u = direct_around rows me x (verdict_of rows w me entry) e u (others_of rows w me entry)
+
+-- ---- The outcome
+
+pub verdict_all : (rows : List Row) (w : WorldState) (me : ℕ) (entry : Sqe) (key : Key) → key ≡ key_of entry → takes_all entry ≡ true → on_all (waiting_by rows w key me) ≡ verdict_of rows w me entry
+verdict_all rows w me entry key k t =
+    ap (λ (q : Key). on_all (waiting_by rows w q me)) k ∙ sym (ap (λ (b : Bool). cond b (on_all (waiting_by rows w (key_of entry) me)) (on_found (found_by rows w (key_of entry) me))) t)
+
+pub verdict_first : (rows : List Row) (w : WorldState) (me : ℕ) (entry : Sqe) (key : Key) → key ≡ key_of entry → takes_all entry ≡ false → on_found (found_by rows w key me) ≡ verdict_of rows w me entry
+verdict_first rows w me entry key k t =
+    ap (λ (q : Key). on_found (found_by rows w q me)) k ∙ sym (ap (λ (b : Bool). cond b (on_all (waiting_by rows w (key_of entry) me)) (on_found (found_by rows w (key_of entry) me))) t)
+
+-- ---- The request that is found
+
+-- A cancellation that finds a later request completes before it.
+pub found_later : (found : Found) (me r q : ℕ) → found ≡ Waiting q → found ≡ Waiting r → me ≤ q → (r == me) ≡ false → ending_with me (on_found found) ≡ (me, pos 0) ∷ (r, ecanceled) ∷ []
+found_later found me r q e f low other = ap (λ (x : Found). ending_with me (on_found x)) f ∙ by (nat_lt r me) refl (nat_lt me r) refl
+  where
+    later : me ≤ r
+    later = let same : q ≡ r = let k : Waiting q ≡ Waiting r = sym e ∙ f in cc in omega (arith, same, low)
+
+    by : (a : Bool) → nat_lt r me ≡ a → (b : Bool) → nat_lt me r ≡ b
+        → ◌++◌ {A = Ending} (map (λ (k : ℕ). (k, ecanceled)) (cond a (r ∷ []) [])) ((me, pos 0) ∷ map (λ (k : ℕ). (k, ecanceled)) (cond b (r ∷ []) [])) ≡ (me, pos 0) ∷ (r, ecanceled) ∷ []
+    by = grind (arith, later, other)
+
+-- A cancellation doesn't find itself.
+pub other_found : (rows : List Row) (w : WorldState) (key : Key) (me r : ℕ) → found_by rows w key me ≡ Waiting r → (r == me) ≡ false
+other_found rows w key me r = by (slice_get (matches_of rows key me) 0) refl
+  where
+    another : (p : ℕ × Row) → slice_get (matches_of rows key me) 0 ≡ Some p → not (p.0 == me) ≡ true
+    another p e =
+        let t = (first_there rows (λ q. is_match key me q.0 q.1) p e).1 in
+        let a = (both (is_issued p.1.phase) (not (is_guard p.1) && (not (p.0 == me) && fits_key key p.1)) t).1 in
+        let b = (both (not (is_guard p.1)) (not (p.0 == me) && fits_key key p.1) a).1 in
+        (both (not (p.0 == me)) (fits_key key p.1) b).0
+
+    waits : (p : ℕ × Row) → not (p.0 == me) ≡ true → (b : Bool) → (if b then Running p.0 else Waiting p.0) ≡ Waiting r → (r == me) ≡ false
+    waits p e true h = absurd cc
+    waits p e false h = let same : p.0 ≡ r = cc in negated (r == me) (subst (λ (q : ℕ). not (q == me) ≡ true) same e)
+
+    by : (o : Option (ℕ × Row)) → slice_get (matches_of rows key me) 0 ≡ o → found_first w o ≡ Waiting r → (r == me) ≡ false
+    by None e h = absurd cc
+    by (Some p) e h = waits p (another p e) (is_running w p.1) h
 
 -- ---- How many there are
 

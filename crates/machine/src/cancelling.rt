@@ -1,11 +1,15 @@
 //! Completes ASYNC_CANCEL, POLL_REMOVE and TIMEOUT_REMOVE, and the requests that they cancel
 //! (io_uring_enter(2)).
-ghost use Rattle.std.specs.Prelude.{◌≡◌, ◌≤◌, nat_lt, IfOk, OnOk, length};
+ghost use Rattle.std.specs.Prelude.{◌≡◌, ◌==◌, ◌≤◌, ℕ, nat_lt, false, IfOk, OnOk, length};
 ghost use Rattle.places.specs.View.{Keeps};
-ghost use Rattle.machine.specs.Cancels.{key_of, takes_all, on_found, verdict_of, canceled, ending_with};
+ghost use Rattle.machine.specs.Cancels.{key_of, takes_all, on_all, on_found, canceled, ending_with};
 ghost use Rattle.machine.specs.Plans.{CanDo, planned};
+ghost use Rattle.machine.specs.Steps.{cascaded};
 ghost use Rattle.machine.specs.declared.planning.Plan.TheVariants.{Cancel};
-ghost use Rattle.machine.specs.Whole.{view, everywhere, Grows, WellFormed};
+ghost use Rattle.machine.specs.Whole.{view, everywhere, Grows, Mostly, WellFormed};
+ghost use Rattle.links_drains.specs.Endings.{Direct};
+ghost use Rattle.timeouts_cancel.specs.Cascades.{GuardsAreLinked};
+ghost use Rattle.timeouts_cancel.specs.declared.matching.Found.TheVariants.{Waiting};
 
 use crate::whole::Machine;
 use entries::{EALREADY, ECANCELED, ENOENT, IORING_ASYNC_CANCEL_ALL, IORING_ASYNC_CANCEL_FD, Sqe};
@@ -13,14 +17,6 @@ use opcodes::Op;
 use places::Recorder;
 use std::alloc::{AllocError, Global};
 use timeouts_cancel::{Found, Key, all_by, find_by};
-
-/// The outcome of a cancellation or a removal.
-#[derive(Drop)]
-struct Verdict {
-    res: i32,
-    /// The canceled requests, by ascending number.
-    rows: Vec<u32>,
-}
 
 impl Machine {
     /// Completes a cancellation or a removal, the requests that it cancels, and their cascade.
@@ -32,52 +28,51 @@ impl Machine {
         ensures keeps { Keeps everywhere (view self.old)
             (view self.new) notes.old.made notes.new.made }
     {
-        let verdict = self.verdict(r, &self.table.row_ref(r).entry)?;
-        let direct = ending_with(self.table.allocator(), r, &verdict)?;
-        self.cascade(&direct, notes)
-    }
-
-    // Determines the outcome, without a change of the state.
-    fn verdict(&self, me: u32, entry: &Sqe) -> Result<Verdict, AllocError>
-        requires few { length self.now.table ≤ 65536 }
-        ensures { IfOk result (λ v. (v.res, v.rows.items)
-            ≡ verdict_of self.now.table self.now.world me entry.now) }
-    {
-        let key = key_of(entry);
-        if takes_all(entry) {
-            let rows = all_by(&self.table, &self.world, key, me)?;
-            return Ok(Verdict {
-                res: rows.len() as i32,
-                rows,
-            });
+        let entry = self.table.row_ref(r).entry;
+        let key = key_of(&entry);
+        if takes_all(&entry) {
+            let rows = all_by(&self.table, &self.world, key, r)?;
+            let direct = ending_with(self.table.allocator(), r, &rows)?;
+            self.cascade(&direct, notes)
+        } else {
+            let found = find_by(&self.table, &self.world, key, r);
+            self.cancel_found(r, found, notes)
         }
-        on_found(
-            self.table.allocator(),
-            find_by(&self.table, &self.world, key, me),
-        )
+    }
+
+    // Completes a cancellation of the first match only.
+    fn cancel_found(
+        &mut self,
+        me: u32,
+        found: Found,
+        notes: &mut Recorder,
+    ) -> Result<(), AllocError>
+        requires direct { Direct self.old.table (ending_with me (on_found found)) }
+        requires other { (r : ℕ) → found ≡ Waiting r → (r == me) ≡ false }
+        requires guards { GuardsAreLinked self.old.table }
+        requires mostly { Mostly self.old }
+        ensures ok { OnOk result (self.new ≡ cascaded self.old (ending_with me (on_found found))) }
+        ensures grows { Grows self.old self.new }
+        ensures keeps { Keeps everywhere (view self.old)
+            (view self.new) notes.old.made notes.new.made }
+    {
+        match found {
+            Found::Absent => self.cascade(&[(me, -ENOENT)], notes),
+            Found::Running(_) => self.cascade(&[(me, -EALREADY)], notes),
+            Found::Waiting(r) if r < me => self.cascade(&[(r, -ECANCELED), (me, 0)], notes),
+            Found::Waiting(r) => self.cascade(&[(me, 0), (r, -ECANCELED)], notes),
+        }
     }
 }
 
-// The outcome of a cancellation of the first match only.
-fn on_found(alloc: Global, found: Found) -> Result<Verdict, AllocError>
-    ensures { IfOk result (λ v. (v.res, v.rows.items) ≡ on_found found) }
+// Lists request `me` with their number, and the canceled requests, by ascending number.
+fn ending_with(alloc: Global, me: u32, rows: &[u32]) -> Result<Vec<(u32, i32)>, AllocError>
+    requires { length rows.now ≤ 65536 }
+    ensures { IfOk result (λ direct. direct.items ≡ ending_with me (on_all rows.now)) }
 {
-    let (res, rows) = match found {
-        Found::Absent => (-ENOENT, Vec::new(alloc)),
-        Found::Running(_) => (-EALREADY, Vec::new(alloc)),
-        Found::Waiting(r) => (0, vec![in alloc; r]?),
-    };
-    Ok(Verdict { res, rows })
-}
-
-// Lists request `me` with its result, and the canceled requests, by ascending number.
-fn ending_with(alloc: Global, me: u32, verdict: &Verdict) -> Result<Vec<(u32, i32)>, AllocError>
-    ensures { IfOk result (λ direct. direct.items
-        ≡ ending_with me (verdict.now.res, verdict.now.rows.items)) }
-{
-    let mut direct = canceled_before(alloc, &verdict.rows, me)?;
-    direct.push((me, verdict.res))?;
-    let mut later = canceled_after(alloc, &verdict.rows, me)?;
+    let mut direct = canceled_before(alloc, rows, me)?;
+    direct.push((me, rows.len() as i32))?;
+    let mut later = canceled_after(alloc, rows, me)?;
     direct.append(&mut later)?;
     Ok(direct)
 }

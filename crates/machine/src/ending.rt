@@ -16,7 +16,7 @@ use timeouts_cancel::{count, fall, falls_alone};
 
 impl Machine {
     /// Completes the requests in `direct` and their cascade. Most cascades are empty, and then no
-    /// list is made.
+    /// list of more requests is made.
     #[tactic(auto, unfolding(crate::specs::Steps::cascaded))]
     pub(crate) fn cascade(
         &mut self,
@@ -84,7 +84,7 @@ impl Machine {
         requires { Direct self.now.table endings.now }
         ensures { IfOk result (λ list. list.items ≡ completions_of self.now.table endings.now) }
     {
-        let mut completions = Vec::new(self.table.allocator());
+        let mut completions = Vec::with_capacity(self.table.allocator(), endings.len())?;
         for i in 0..endings.len() {
             let (r, res) = endings[i];
             completions.push(completion_of(res, self.table.row_ref(r)))?;

@@ -369,8 +369,8 @@ impl Recorder {
         either(self.rest.names(place), by_kind)
     }
 
-    /// Removes all notes, and keeps their memory for the next ones if it is small. Allocates
-    /// nothing.
+    /// Removes all notes. Keeps their memory for the next ones, that of rows, numbers and
+    /// completions only if it is small. Allocates nothing.
     pub fn forget(&mut self)
         ensures { self.new.made ≡ [] }
     {

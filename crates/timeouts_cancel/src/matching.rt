@@ -104,19 +104,11 @@ fn next_match(table: &Table, key: Key, me: u32, from: u32) -> Option<(u32, Row)>
     ensures none { IfNone result (NoMatchFrom table.now key me from) }
     ensures few { IfSome result (λ p. p.0 < 65536) }
 {
-    match user_of(key) {
-        Some(user_data) => next_with_user(table, key, me, from, user_data),
-        None => next_in_turn(table, key, me, from),
-    }
-}
-
-// The user_data that the key requires.
-fn user_of(key: Key) -> Option<u64>
-    ensures { result ≡ user_of key }
-{
     match key {
-        Key::User(sought) | Key::Poll(sought) | Key::Timeout(sought) => Some(sought),
-        Key::Fd(_) => None,
+        Key::User(sought) | Key::Poll(sought) | Key::Timeout(sought) => {
+            next_with_user(table, key, me, from, sought)
+        }
+        Key::Fd(number) => next_with_descriptor(table, number, me, from),
     }
 }
 
@@ -167,16 +159,16 @@ fn or_later(
     }
 }
 
-// The first match from a number on, by one search: through the requests that hold the descriptor,
-// or through all issued ones.
-fn next_in_turn(table: &Table, key: Key, me: u32, from: u32) -> Option<(u32, Row)>
-    ensures some { IfSome result (λ p. IsNextMatch table.now key me from p.0 p.1) }
-    ensures none { IfNone result (NoMatchFrom table.now key me from) }
+// The first match from a number on, by one search through the requests that hold the descriptor. No
+// descriptor is negative.
+fn next_with_descriptor(table: &Table, number: i32, me: u32, from: u32) -> Option<(u32, Row)>
+    ensures some { IfSome result (λ p. IsNextMatch table.now (Fd number) me from p.0 p.1) }
+    ensures none { IfNone result (NoMatchFrom table.now (Fd number) me from) }
     ensures few { IfSome result (λ p. p.0 < 65536) }
 {
     let mut at = from;
-    while let Some(r) = next_candidate(table, key, at) {
-        if let Some(found) = matching(table, key, me, r) {
+    while let Some(r) = next_holder(table, number, at) {
+        if let Some(found) = matching(table, Key::Fd(number), me, r) {
             return Some(found);
         }
         at = r + 1;
@@ -184,19 +176,7 @@ fn next_in_turn(table: &Table, key: Key, me: u32, from: u32) -> Option<(u32, Row
     None
 }
 
-// The first request from a number on that may match.
-fn next_candidate(table: &Table, key: Key, from: u32) -> Option<u32>
-    ensures some { IfSome result (λ r. IsNextCandidate table.now key from r) }
-    ensures none { IfNone result (NoCandidateFrom table.now key from) }
-    ensures few { IfSome result (λ r. r < 65536) }
-{
-    match key {
-        Key::Fd(number) => next_holder(table, number, from),
-        _ => table.next_issued(from),
-    }
-}
-
-// The first request from a number on that holds the descriptor. No descriptor is negative.
+// The first request from a number on that holds the descriptor.
 fn next_holder(table: &Table, number: i32, from: u32) -> Option<u32>
     ensures some { IfSome result (λ r. IsNextCandidate table.now (Fd number) from r) }
     ensures none { IfNone result (NoCandidateFrom table.now (Fd number) from) }

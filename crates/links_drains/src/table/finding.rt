@@ -15,7 +15,8 @@ impl Table {
         self.finder.end_of_user(&self.rows, user_data) as u32
     }
 
-    /// Returns the end of those before request r, in constant time.
+    /// Returns the end of the requests with this user_data below r: no request has it from there up
+    /// to r. Takes constant time.
     pub fn end_before(&self, user_data: u64, r: u32) -> u32
         requires { r < length self.now }
         ensures below { result ≤ r }

@@ -34,8 +34,7 @@ impl State {
         }
     }
 
-    /// Exchanges what two states are. The memory for the notes of steps stays with each. Allocates
-    /// nothing.
+    /// Swaps two states. The memory for the notes of steps stays with each. Allocates nothing.
     pub fn exchange(&mut self, other: &mut State)
         ensures this { self.new ≡ other.old }
         ensures that { other.new ≡ self.old }

@@ -17,7 +17,8 @@ use compact_size::{CompactSizes, put_number};
 use std::alloc::AllocError;
 use std::marker::Model;
 
-/// Packed changes: twice their number, plus 1 if undoing them may shorten a list, and then each change.
+/// Packed changes: twice their number, plus 1 if undoing them may shorten a list, and then each
+/// change.
 #[derive(Drop)]
 pub struct Packed {
     bytes: ShortBytes,
@@ -50,7 +51,8 @@ impl Packed {
         }
     }
 
-    /// Packs notes. It builds the bytes in `scratch`, whose memory is reused, and copies them. Fails if an allocation fails, or if an old value has no packed form.
+    /// Packs notes. It builds the bytes in `scratch`, whose memory is reused, and copies them. Fails
+    /// if an allocation fails, or if an old value has no packed form.
     pub fn from_parts(
         numbers: &[NumberNote],
         completions: &[CompletionNote],
