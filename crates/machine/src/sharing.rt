@@ -75,24 +75,69 @@ impl SharedMachine {
     fn build(&self, alloc: Global, room: Room) -> Result<Machine, AllocError>
         ensures { IfOk result (λ machine. machine ≡ machine_in self.now) }
     {
-        let Room {
-            submissions,
-            completions,
-            world,
-            table,
-        } = room;
+        let rings = self.rings(alloc, room.submissions, room.completions)?;
+        let requests = self.requests(alloc, room.world, room.table)?;
+        self.assemble(alloc, rings, requests)
+    }
+
+    // Returns the machine of these parts.
+    fn assemble(
+        &self,
+        alloc: Global,
+        rings: (SubRing, ComRing),
+        requests: (World, Table),
+    ) -> Result<Machine, AllocError>
+        requires rings { rings ≡ (self.now.submissions, self.now.completions) }
+        requires requests { requests ≡ (self.now.world, self.now.table) }
+        ensures { IfOk result (λ machine. machine ≡ machine_in self.now) }
+    {
+        let (backlog, threads) = self.queues(alloc)?;
         Ok(Machine {
-            submissions: self.submissions.restore(alloc, submissions)?,
-            completions: self.completions.restore(alloc, completions)?,
-            backlog: self.backlog.copy(alloc)?,
-            world: self.world.restore(alloc, world)?,
-            table: self.table.restore(alloc, table)?,
+            submissions: rings.0,
+            completions: rings.1,
+            backlog,
+            world: requests.0,
+            table: requests.1,
             poller: self.poller,
             submit_all: self.submit_all,
-            threads: self.threads.copy(alloc)?,
+            threads,
             clock: self.clock,
             counted: self.counted,
         })
+    }
+
+    fn rings(
+        &self,
+        alloc: Global,
+        submissions: Option<SubRing>,
+        completions: Option<ComRing>,
+    ) -> Result<(SubRing, ComRing), AllocError>
+        ensures { IfOk result (λ rings. rings ≡ (self.now.submissions, self.now.completions)) }
+    {
+        let submissions = self.submissions.restore(alloc, submissions)?;
+        let completions = self.completions.restore(alloc, completions)?;
+        Ok((submissions, completions))
+    }
+
+    fn requests(
+        &self,
+        alloc: Global,
+        world: Option<World>,
+        table: Option<Table>,
+    ) -> Result<(World, Table), AllocError>
+        ensures { IfOk result (λ requests. requests ≡ (self.now.world, self.now.table)) }
+    {
+        let world = self.world.restore(alloc, world)?;
+        let table = self.table.restore(alloc, table)?;
+        Ok((world, table))
+    }
+
+    fn queues(&self, alloc: Global) -> Result<(Backlog, Threads), AllocError>
+        ensures { IfOk result (λ queues. queues ≡ (self.now.backlog, self.now.threads)) }
+    {
+        let backlog = self.backlog.copy(alloc)?;
+        let threads = self.threads.copy(alloc)?;
+        Ok((backlog, threads))
     }
 }
 

@@ -1,4 +1,4 @@
-use Rattle.timeouts_cancel.proofs.Common.{◌≡◌, ◌+◌, false, ap, arith}
+use Rattle.timeouts_cancel.proofs.Common.{◌+◌, ap, arith}
 use Rattle.timeouts_cancel.proofs.Filters.{severed_few, counted_few, alone}
 use Rattle.timeouts_cancel.proofs.cascading.falls_alone.Goals as goal
 
