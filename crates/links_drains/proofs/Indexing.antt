@@ -51,11 +51,6 @@ barriers_written = grind arith
 pub barriers_kept : (rows : List Row) (r unit : ℕ) (index : Index) → IndexedBut r unit rows index → drains rows unit ≡ false → (u : ℕ) → has index.barriers u ≡ is_barrier rows u
 barriers_kept = grind (arith, cases_eq)
 
--- The two sets that the rest depends on are correct.
-pub but_written : (rows : List Row) (r unit : ℕ) (index : Index) (unfinished flagged : List ℕ) → IndexedBut r unit rows index → length unfinished ≡ length index.unfinished → length flagged ≡ length index.flagged
-    → ((q : ℕ) → has unfinished q ≡ passes_at is_open rows q) → ((q : ℕ) → has flagged q ≡ passes_at has_drain_flag rows q) → IndexedBut r unit rows (record index { unfinished = unfinished; flagged = flagged })
-but_written = grind arith
-
 pub updated_index : (rows : List Row) (r unit : ℕ) (index : Index) (barriers issued thresholds : List ℕ) → IndexedBut r unit rows index
     → length barriers ≡ length index.barriers → length issued ≡ length index.issued → length thresholds ≡ length index.thresholds
     → ((q : ℕ) → has index.unfinished q ≡ passes_at is_open rows q) → ((q : ℕ) → has index.flagged q ≡ passes_at has_drain_flag rows q) → ((u : ℕ) → has barriers u ≡ is_barrier rows u)

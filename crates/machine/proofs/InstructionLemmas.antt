@@ -14,10 +14,6 @@ can_advance m t f x h = let s = f.mostly.threads t x h in omega (arith, s.within
 pub is_done : (m : Machine) (t : ℕ) (i : Instruction) → WellFormed m → next_of (slice_get m.threads t) ≡ Some i → IsDone (length m.submissions.slots) i
 is_done m t i f h = let x = thread_of m t i h in (f.mostly.threads t x.0 x.1).program.done x.0.counter i x.2
 
--- The next instruction, as it was read.
-pub instruction_is_next : (m : Machine) (t : ℕ) (x : ThreadState) (i : Instruction) → Some x ≡ slice_get m.threads t → Some i ≡ slice_get x.program x.counter → next_of (slice_get m.threads t) ≡ Some i
-instruction_is_next m t x i h k = ap next_of (sym h) ∙ sym k
-
 -- It is the same after a change that doesn't affect the threads.
 pub there_still : (m n : Machine) (t : ℕ) (i : Instruction) → n.threads ≡ m.threads → next_of (slice_get m.threads t) ≡ Some i → t < length n.threads
 there_still m n t i e h = subst (λ (ts : List ThreadState). t < length ts) (sym e) (thread_there m t i h)

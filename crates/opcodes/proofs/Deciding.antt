@@ -30,13 +30,6 @@ does w row fd d op stock k o res effect held there opcode holds counted is same 
     subst (λ z. Does w row z effect) (counts o k res counted is)
     (record { same = same ∙ sym (after_is w row fd d op stock k held there opcode holds); can = can })
 
--- The bounds of a transfer between a file and memory.
-pub file_read_within : (entry : Sqe) (p len k : ℕ) (c : Choice) → len ≤ 65536 → entry.addr + entry.len ≤ 65536 → file_read entry p len c ≡ Res (pos k) → Moves entry p k
-file_read_within = grind arith
-
-pub file_written_within : (entry : Sqe) (p k : ℕ) (c : Choice) → entry.addr + entry.len ≤ 65536 → file_written entry p c ≡ Res (pos k) → Moves entry p k
-file_written_within = grind arith
-
 -- A pipe gives out, or takes in, at most what the request asks for.
 pub pipe_read_within : (len filled k : ℕ) (writer : Bool) (c : Choice) → Some k ≡ count_in (pipe_read len writer filled c) → (k ≤ filled) × (k ≤ len)
 pipe_read_within = grind arith

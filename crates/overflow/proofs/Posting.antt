@@ -48,9 +48,6 @@ pub record Posting (before now : ComWords) (old new : Notes) (list : List Cqe) (
   pub numbers : old.numbers ≤ new.numbers + i
   pub completions : old.completions ≤ new.completions + i
 
-pub posting_starts : (w : ComWords) (notes : Notes) (list : List Cqe) → ComFormed w → Posting w w notes notes list 0
-posting_starts = grind arith
-
 -- The next completion fits.
 pub posting_room : (before now : ComWords) (old new : Notes) (list : List Cqe) (i : ℕ) → Posting before now old new list i → waiting before.head before.tail + length list ≤ length before.slots → i < length list → waiting now.head now.tail < length now.slots
 posting_room = grind (arith, length-take-le, posted_waits, posted_slots)

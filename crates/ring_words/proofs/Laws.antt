@@ -44,9 +44,6 @@ formed_flag w g on f = record { size = f.size; slots = f.slots; head = f.head; t
 pub formed_posted : (w : ComWords) (c : Cqe) → ComFormed w → ComFormed (record w { tail = (w.tail + 1) % 2 ^ 32; slots = slice_set w.slots (w.tail % length w.slots) c })
 formed_posted w c f = record { size = rw (length-set w.slots (w.tail % length w.slots) c) f.size; head = f.head; tail = omega arith }
 
-pub formed_reaped : (w : ComWords) → ComFormed w → ComFormed (record w { head = (w.head + 1) % 2 ^ 32 })
-formed_reaped w f = record { size = f.size; head = omega arith; tail = f.tail }
-
 zero_word : (n i y : ℕ) → slice_get (replicate n 0) i ≡ Some y → y < 2 ^ 32
 zero_word zero i y e = absurd cc
 zero_word (suc n) zero y e = let z : 0 ≡ y = cc in omega arith
