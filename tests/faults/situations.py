@@ -207,6 +207,7 @@ def calls_of_walkers():
     for call in ("goto", "move_to"):
         yield Situation(call, "ticks", 9, 5, quiet=True)
     yield Situation("goto", "ticks", 10, 9, quiet=True)
+    yield Situation("goto", "all_opcodes", 45, 43, quiet=True)  # back over the checkpoint at 44
     yield Situation("move_to", "all_opcodes", 3, 30, answers=((2, 0),))
     yield Situation("last_state", "all_opcodes", 3)
     yield Situation("back", "ticks", 10, quiet=True)
