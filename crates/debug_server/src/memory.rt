@@ -15,7 +15,7 @@ use crate::faults::RunFault;
 use crate::walking::walk;
 use std::alloc::Global;
 
-/// Returns the replies of a script's session to the input.
+/// Returns the replies of a script's session to the input. The session's memory isn't freed.
 pub fn replies(alloc: Global, script: &[u8], input: &[u8]) -> Result<Vec<u8>, RunFault>
     // The schedule was accepted, and the result is exactly the replies to the input's lines, up to
     // `quit`, without a source.

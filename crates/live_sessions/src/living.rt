@@ -69,8 +69,8 @@ fn run_setup<R: Threads + Wait + Clock + Sync>(
     run_live(rt, alloc, script.setup(), kernel, turns, &AlwaysOpen)
 }
 
-/// Replies to the reader's lines in a session over a closed run. The session's memory isn't freed: a
-/// program ends after the last reply.
+/// Replies to the reader's lines in a session over a closed run. The session's memory isn't freed:
+/// a program ends after the last reply.
 pub fn answer_closed<R: Read, W: Write>(
     alloc: Global,
     closed: &Closed,

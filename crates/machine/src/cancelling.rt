@@ -65,7 +65,8 @@ impl Machine {
     }
 }
 
-// Lists request `me` with their number, and the canceled requests, by ascending number.
+// Lists request `me`, whose result is how many are canceled, and the canceled requests, by
+// ascending number.
 fn ending_with(alloc: Global, me: u32, rows: &[u32]) -> Result<Vec<(u32, i32)>, AllocError>
     requires { length rows.now ≤ 65536 }
     ensures { IfOk result (λ direct. direct.items ≡ ending_with me (on_all rows.now)) }

@@ -80,7 +80,7 @@ impl SharedMachine {
         self.assemble(alloc, rings, requests)
     }
 
-    // Returns the machine of these parts.
+    // Returns the machine of these parts and of copies of the others.
     fn assemble(
         &self,
         alloc: Global,

@@ -159,8 +159,7 @@ fn or_later(
     }
 }
 
-// The first match from a number on, by one search through the requests that hold the descriptor. No
-// descriptor is negative.
+// The first match from a number on, through the requests that hold the descriptor.
 fn next_with_descriptor(table: &Table, number: i32, me: u32, from: u32) -> Option<(u32, Row)>
     ensures some { IfSome result (λ p. IsNextMatch table.now (Fd number) me from p.0 p.1) }
     ensures none { IfNone result (NoMatchFrom table.now (Fd number) me from) }
@@ -176,7 +175,7 @@ fn next_with_descriptor(table: &Table, number: i32, me: u32, from: u32) -> Optio
     None
 }
 
-// The first request from a number on that holds the descriptor.
+// The first request from a number on that holds the descriptor. No descriptor is negative.
 fn next_holder(table: &Table, number: i32, from: u32) -> Option<u32>
     ensures some { IfSome result (λ r. IsNextCandidate table.now (Fd number) from r) }
     ensures none { IfNone result (NoCandidateFrom table.now (Fd number) from) }

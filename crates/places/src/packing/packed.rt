@@ -51,8 +51,8 @@ impl Packed {
         }
     }
 
-    /// Packs notes. It builds the bytes in `scratch`, whose memory is reused, and copies them. Fails
-    /// if an allocation fails, or if an old value has no packed form.
+    /// Packs notes. It builds the bytes in `scratch`, whose memory is reused, and copies them.
+    /// Fails if an allocation fails, or if an old value has no packed form.
     pub fn from_parts(
         numbers: &[NumberNote],
         completions: &[CompletionNote],
