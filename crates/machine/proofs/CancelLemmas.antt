@@ -2,7 +2,7 @@
 use Rattle.std.proofs.Common.{◌≡◌, ℕ, pos, zero, suc, Bool, true, false, not, cond, refl, sym, ◌∙◌, ap, subst, List, [], ◌∷◌, ◌++◌, length, map, ◌+◌, ◌<◌, ◌≤◌, le_refl, arith}
 use Rattle.machine.proofs.Common.{Option, Some, None, slice_get, ◌==◌, ◌&&◌, nat_lt, if◌then◌else◌, filter, enumerate_from, slice_get_within, Sqe, Row, Phase, WorldState, is_running, Ending, ecanceled, Direct, is_guard, is_ended, is_issued, is_unfinished, enumerated, Verdict, key_of, takes_all, on_found, on_all, verdict_of, canceled, ending_with}
 use Rattle.timeouts_cancel.specs.declared.matching.Key.{Key}
-use Rattle.timeouts_cancel.specs.declared.matching.Found.TheVariants.{Absent, Running, Waiting}
+use Rattle.timeouts_cancel.specs.declared.matching.Found.TheVariants.{Running, Waiting}
 use Rattle.timeouts_cancel.specs.declared.matching.Found.{Found}
 use Rattle.timeouts_cancel.specs.Matches.{fits_key, is_match, matches_of, found_by, found_first, is_waiting_match, waiting_by}
 use Rattle.timeouts_cancel.proofs.Severing.{both}

@@ -91,7 +91,7 @@ impl SharedMachine {
         requires requests { requests ≡ (self.now.world, self.now.table) }
         ensures { IfOk result (λ machine. machine ≡ machine_in self.now) }
     {
-        let (backlog, threads) = self.queues(alloc)?;
+        let (backlog, threads) = self.own_parts(alloc)?;
         Ok(Machine {
             submissions: rings.0,
             completions: rings.1,
@@ -106,6 +106,7 @@ impl SharedMachine {
         })
     }
 
+    // Returns the rings, in the storage of these as far as that fits.
     fn rings(
         &self,
         alloc: Global,
@@ -119,6 +120,7 @@ impl SharedMachine {
         Ok((submissions, completions))
     }
 
+    // Returns the world and the table, in the storage of these as far as that fits.
     fn requests(
         &self,
         alloc: Global,
@@ -132,8 +134,9 @@ impl SharedMachine {
         Ok((world, table))
     }
 
-    fn queues(&self, alloc: Global) -> Result<(Backlog, Threads), AllocError>
-        ensures { IfOk result (λ queues. queues ≡ (self.now.backlog, self.now.threads)) }
+    // Copies the backlog and the threads, which no other copy shares.
+    fn own_parts(&self, alloc: Global) -> Result<(Backlog, Threads), AllocError>
+        ensures { IfOk result (λ parts. parts ≡ (self.now.backlog, self.now.threads)) }
     {
         let backlog = self.backlog.copy(alloc)?;
         let threads = self.threads.copy(alloc)?;

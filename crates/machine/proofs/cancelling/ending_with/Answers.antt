@@ -1,4 +1,4 @@
-use Rattle.std.proofs.Common.{◌≡◌, ◌≤◌, ◌∙◌, ap, ℕ, ℤ, List, [], ◌∷◌, ◌++◌, length, pos, nat_lt, append_assoc, w32, to_z, arith}
+use Rattle.std.proofs.Common.{◌≡◌, ◌∙◌, ap, ℕ, ℤ, List, [], ◌∷◌, ◌++◌, length, pos, nat_lt, append_assoc, w32, to_z, arith}
 use Rattle.machine.proofs.Common.{to_z_pos, Ending, canceled}
 use Rattle.machine.proofs.cancelling.ending_with.Goals as goal
 

@@ -1,4 +1,4 @@
-use Rattle.machine.proofs.Common.{◌≡◌, ◌≤◌, ◌∙◌, ap, sym, subst, length, arith, List, Direct, verdict_of, on_all, on_found, ending_with}
+use Rattle.machine.proofs.Common.{◌≡◌, ◌∙◌, ap, sym, subst, length, arith, Direct, on_all, on_found, ending_with}
 use Rattle.timeouts_cancel.specs.Matches.{waiting_by}
 use Rattle.machine.proofs.CancelLemmas.{direct_cancel, few_waiting, verdict_all, verdict_first, other_found}
 use Rattle.machine.proofs.GuardLemmas.{guards_linked}
