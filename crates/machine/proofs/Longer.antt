@@ -1,5 +1,5 @@
 -- Runs that are extended by events.
-use Rattle.std.proofs.Common.{◌≡◌, ◌+◌, List, [], ◌∷◌, ◌++◌, None, refl}
+use Rattle.std.proofs.Common.{◌≡◌, List, [], ◌∷◌, ◌++◌, None, refl}
 use Rattle.machine.proofs.Common.{Event, Machine, after, refusal, run, Accepts}
 
 pub run-append : (s : Machine) (es fs : List Event) → run s (es ++ fs) ≡ run (run s es) fs

@@ -1,4 +1,4 @@
-use Rattle.machine.proofs.Common.{◌≡◌, sym, ◌∙◌, ap, subst, w32, FitsSigned, rules, to_z-of_z, Row, is_held_by, WorldState, world_after, outcome_of, Res, stays_after, Mostly}
+use Rattle.machine.proofs.Common.{sym, ◌∙◌, subst, is_held_by, WorldState, world_after, stays_after, Mostly}
 use Rattle.machine.proofs.CascadedRows.{direct_one}
 use Rattle.machine.proofs.FormedMachines.{mostly, mostly_world}
 use Rattle.machine.specs.Whole.{Grows}
