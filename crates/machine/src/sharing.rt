@@ -33,18 +33,69 @@ impl Machine {
         ensures ok { IfOk result (λ copy. machine_in copy ≡ self.old) }
         ensures same { self.new ≡ self.old }
     {
-        Ok(SharedMachine {
-            submissions: self.submissions.share(alloc)?,
-            completions: self.completions.share(alloc)?,
-            backlog: self.backlog.copy(alloc)?,
-            world: self.world.share(alloc)?,
-            table: self.table.share(alloc)?,
+        let rings = self.share_rings(alloc)?;
+        let own = copy_unshared(alloc, &self.backlog, &self.threads)?;
+        self.share_around(alloc, rings, own)
+    }
+
+    // Returns a copy of these parts and of copies of the others.
+    fn share_around(
+        &mut self,
+        alloc: Global,
+        rings: (SharedSubRing, SharedComRing),
+        own: (Backlog, Threads),
+    ) -> Result<SharedMachine, AllocError>
+        requires rings { rings ≡ (self.old.submissions, self.old.completions) }
+        requires own { own ≡ (self.old.backlog, self.old.threads) }
+        ensures ok { IfOk result (λ copy. machine_in copy ≡ self.old) }
+        ensures same { self.new ≡ self.old }
+    {
+        let requests = self.share_requests(alloc)?;
+        Ok(self.shared_with(rings, requests, own))
+    }
+
+    // Returns a copy of these parts, with the numbers of this machine.
+    fn shared_with(
+        &self,
+        rings: (SharedSubRing, SharedComRing),
+        requests: (SharedWorld, SharedTable),
+        own: (Backlog, Threads),
+    ) -> SharedMachine
+        requires rings { rings ≡ (self.now.submissions, self.now.completions) }
+        requires requests { requests ≡ (self.now.world, self.now.table) }
+        requires own { own ≡ (self.now.backlog, self.now.threads) }
+        ensures { machine_in result ≡ self.now }
+    {
+        SharedMachine {
+            submissions: rings.0,
+            completions: rings.1,
+            backlog: own.0,
+            world: requests.0,
+            table: requests.1,
             poller: self.poller,
             submit_all: self.submit_all,
-            threads: self.threads.copy(alloc)?,
+            threads: own.1,
             clock: self.clock,
             counted: self.counted,
-        })
+        }
+    }
+
+    fn share_rings(&mut self, alloc: Global) -> Result<(SharedSubRing, SharedComRing), AllocError>
+        ensures ok { IfOk result (λ rings. rings ≡ (self.old.submissions, self.old.completions)) }
+        ensures same { self.new ≡ self.old }
+    {
+        let submissions = self.submissions.share(alloc)?;
+        let completions = self.completions.share(alloc)?;
+        Ok((submissions, completions))
+    }
+
+    fn share_requests(&mut self, alloc: Global) -> Result<(SharedWorld, SharedTable), AllocError>
+        ensures ok { IfOk result (λ requests. requests ≡ (self.old.world, self.old.table)) }
+        ensures same { self.new ≡ self.old }
+    {
+        let world = self.world.share(alloc)?;
+        let table = self.table.share(alloc)?;
+        Ok((world, table))
     }
 }
 
@@ -91,19 +142,34 @@ impl SharedMachine {
         requires requests { requests ≡ (self.now.world, self.now.table) }
         ensures { IfOk result (λ machine. machine ≡ machine_in self.now) }
     {
-        let (backlog, threads) = self.own_parts(alloc)?;
-        Ok(Machine {
+        let own = copy_unshared(alloc, &self.backlog, &self.threads)?;
+        Ok(self.with_parts(rings, requests, own))
+    }
+
+    // Returns the machine of these parts, with the numbers of this copy.
+    fn with_parts(
+        &self,
+        rings: (SubRing, ComRing),
+        requests: (World, Table),
+        own: (Backlog, Threads),
+    ) -> Machine
+        requires rings { rings ≡ (self.now.submissions, self.now.completions) }
+        requires requests { requests ≡ (self.now.world, self.now.table) }
+        requires own { own ≡ (self.now.backlog, self.now.threads) }
+        ensures { result ≡ machine_in self.now }
+    {
+        Machine {
             submissions: rings.0,
             completions: rings.1,
-            backlog,
+            backlog: own.0,
             world: requests.0,
             table: requests.1,
             poller: self.poller,
             submit_all: self.submit_all,
-            threads,
+            threads: own.1,
             clock: self.clock,
             counted: self.counted,
-        })
+        }
     }
 
     // Returns the rings, in the storage of these as far as that fits.
@@ -133,15 +199,19 @@ impl SharedMachine {
         let table = self.table.restore(alloc, table)?;
         Ok((world, table))
     }
+}
 
-    // Copies the backlog and the threads, which no other copy shares.
-    fn own_parts(&self, alloc: Global) -> Result<(Backlog, Threads), AllocError>
-        ensures { IfOk result (λ parts. parts ≡ (self.now.backlog, self.now.threads)) }
-    {
-        let backlog = self.backlog.copy(alloc)?;
-        let threads = self.threads.copy(alloc)?;
-        Ok((backlog, threads))
-    }
+/// Copies the parts of a machine that no copies share.
+pub(crate) fn copy_unshared(
+    alloc: Global,
+    backlog: &Backlog,
+    threads: &Threads,
+) -> Result<(Backlog, Threads), AllocError>
+    ensures { IfOk result (λ parts. parts ≡ (backlog.now, threads.now)) }
+{
+    let backlog = backlog.copy(alloc)?;
+    let threads = threads.copy(alloc)?;
+    Ok((backlog, threads))
 }
 
 // The parts of a machine that a copy is restored in.
