@@ -33,6 +33,21 @@ fn report_length<R: Files + Print + AllocGlobal>(
     Ok(ExitCode::FAILURE)
 }
 
+// Prints the faults of a script's text, and returns the exit status.
+fn report_faults<R: Files + Print + AllocGlobal>(
+    rt: &R,
+    path: &str,
+    text: &[u8],
+    output: &mut Output<'_, R>,
+) -> Result<ExitCode, Fault> {
+    match check_script(rt.alloc(), path, text, output) {
+        Ok(Verdict::Fine) => Ok(ExitCode::SUCCESS),
+        Ok(Verdict::Faulty(_)) | Ok(Verdict::Refused(_, _)) => Ok(ExitCode::FAILURE),
+        Err(ReportFault::Script(_)) => report_length(rt, path, output),
+        Err(fault) => Err(fault_of_report(fault)),
+    }
+}
+
 /// Prints the faults of a script, or `ok` if it has none. Returns exit status 1 if it has some,
 /// otherwise 0.
 pub fn check_file<R: Files + Input + Print + AllocGlobal>(
@@ -48,10 +63,5 @@ pub fn check_file<R: Files + Input + Print + AllocGlobal>(
             return Ok(ExitCode::FAILURE);
         }
     };
-    match check_script(rt.alloc(), path, &text, &mut output) {
-        Ok(Verdict::Fine) => Ok(ExitCode::SUCCESS),
-        Ok(Verdict::Faulty(_)) | Ok(Verdict::Refused(_, _)) => Ok(ExitCode::FAILURE),
-        Err(ReportFault::Script(_)) => report_length(rt, path, &mut output),
-        Err(fault) => Err(fault_of_report(fault)),
-    }
+    report_faults(rt, path, &text, &mut output)
 }

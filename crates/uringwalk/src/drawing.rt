@@ -34,6 +34,18 @@ fn keep_page(rt: &(impl Files + AllocGlobal), out: &str, page: &[u8]) -> Result<
     }
 }
 
+// Writes what was drawn to its file, unless the run is too long, and returns the exit status.
+fn keep_drawing(
+    rt: &(impl Files + Eprint + AllocGlobal),
+    out: &str,
+    drawing: Drawing,
+) -> Result<ExitCode, Fault> {
+    match drawing {
+        Drawing::Bytes(page) => keep_page(rt, out, &page),
+        Drawing::TooLong(events) => Ok(refuse_long(rt, events)),
+    }
+}
+
 // Returns whether a picture would overwrite its run.
 fn loses_run(rt: &(impl Files + AllocGlobal), run: &str, out: &str) -> Result<bool, Fault> {
     if is_standard_input(run) {
@@ -58,8 +70,7 @@ pub fn draw_file(
     }
     let bytes = read_input(rt, run, WHOLE_TRACE_AND_ONE)?;
     match draw_run(rt.alloc(), run, &bytes, window, picture) {
-        Ok(Drawing::Bytes(page)) => keep_page(rt, out, &page),
-        Ok(Drawing::TooLong(events)) => Ok(refuse_long(rt, events)),
+        Ok(drawing) => keep_drawing(rt, out, drawing),
         Err(fault) => Ok(Failure::from_report(rt.alloc(), &bytes, fault).print(rt)),
     }
 }
