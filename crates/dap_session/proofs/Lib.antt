@@ -1,3 +1,1 @@
 pub mod Conversing
-pub mod Searching
-pub mod Watching
