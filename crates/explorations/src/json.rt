@@ -45,11 +45,15 @@ fn schedule_of(
     }
 }
 
-/// Returns the result of a search as an object of JSON on one line.
-pub fn json_of(alloc: Global, exploration: &Exploration<'_>) -> Result<String, AllocError> {
+// Returns the result of a search as an object of JSON.
+fn object_of<'a>(
+    alloc: Global,
+    exploration: &Exploration<'a>,
+) -> Result<ExplorationObject<'a>, AllocError> {
     let found = exploration.discovery;
     let schedule = found.map(|it| it.schedule);
-    let object = ExplorationObject {
+    let items = schedule_of(alloc, schedule)?;
+    Ok(ExplorationObject {
         found: found.is_some(),
         kind: found.and_then(|it| it.kind),
         moment: found.map(|it| it.moment),
@@ -61,9 +65,14 @@ pub fn json_of(alloc: Global, exploration: &Exploration<'_>) -> Result<String, A
         seen: exploration.seen,
         length: found.map(|it| it.length),
         shrunk: schedule.map(|events| events.len()),
-        schedule: schedule_of(alloc, schedule)?,
+        schedule: items,
         out: found.and_then(|it| it.out),
-    };
+    })
+}
+
+/// Returns the result of a search as an object of JSON on one line.
+pub fn json_of(alloc: Global, exploration: &Exploration<'_>) -> Result<String, AllocError> {
+    let object = object_of(alloc, exploration)?;
     let mut line = line_of(alloc, &object)?;
     line.push('\n')?;
     Ok(line)
