@@ -1,4 +1,2 @@
 pub mod Common
-mod Opened
 mod Stepping
-mod Valued

@@ -1,4 +1,3 @@
 pub mod Common
-pub mod Values
 pub mod Steps
 pub mod Pictures

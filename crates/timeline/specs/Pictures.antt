@@ -1,7 +1,7 @@
 -- Which runs `timeline` draws, and what a picture shows of them.
-use Rattle.std.specs.Prelude.{◌≡◌, ◌≤◌, ℕ, min, ◌&&◌, ◌||◌, nat_lt, nat_eq, not, is_some, List, codes, length, Bool, true, false, if◌then◌else◌, Option, Some, None}
-use Rattle.timeline.specs.Common.{ends_with, Event, Setup, view, start, moment, Accepts, IsRefused, Scenario, Reads, IsUnread, Ended, Refused, Stopped, ReportFault, Script, Trace, Schedule, Write, Memory, EventRange, IsFollowed, IsReportOf, findings_in, Drawing, Bytes, TooLong, Picture, Page, TraceEvents, Window, Seen, Values}
-use Rattle.timeline.specs.{Steps.AreSteps, Values.AreValues}
+use Rattle.std.specs.Prelude.{◌≡◌, ℕ, ◌&&◌, ◌||◌, nat_lt, nat_eq, not, is_some, List, codes, length, Bool, true, false, if◌then◌else◌, Option, Some, None}
+use Rattle.timeline.specs.Common.{ends_with, Event, Setup, start, Accepts, IsRefused, Scenario, Reads, IsUnread, Ended, Refused, Stopped, ReportFault, Script, Trace, Schedule, Write, Memory, EventRange, IsFollowed, IsReportOf, findings_in, HasOpened, Drawing, Bytes, TooLong, Picture, Page, TraceEvents, Window, Seen}
+use Rattle.timeline.specs.Steps.{AreSteps}
 use Rattle.runs.specs.declared.driving.Ended.TheVariants as ended
 use Rattle.runs.specs.declared.reading.RunFault.TheVariants as unread
 
@@ -16,12 +16,6 @@ abbrev pub is_long : ℕ → Window → Bool
 is_long count w = nat_lt 5000 count && (not (is_some w.from) || not (is_some w.to))
 
 -- ---- one run
-
--- The values at moment `at`, or at the end of a shorter run, once n events reach it.
-abbrev pub HasOpened : Setup → List Event → ℕ → ℕ → Values → Type 0
-HasOpened s es n at x =
-    min at (length es) ≤ n
-    → AreValues s (view (moment s es (min at (length es)))) x.values.items x.regions.items
 
 -- What a picture shows of a run, none of whose events is refused: its occupancy, the lifetimes of
 -- its requests, the values at the first moment of a range, the events in the range with their

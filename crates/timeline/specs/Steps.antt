@@ -1,7 +1,6 @@
 -- How a picture shows the events of a part of a run, with the changes of each.
 use Rattle.std.specs.Prelude.{◌≡◌, ℕ, zero, suc, ◌+◌, ◌++◌, nat_le, List, [], ◌∷◌, codes, length, map, take, slice_get, string_bytes, Bool, true, false, if◌then◌else◌, Some}
-use Rattle.timeline.specs.Common.{utf8_lossy, Change, Exact, NamesOnce, Event, Setup, view, moment, event_text, Changed, EventRange, change_text, rows, IsListing, has, StepPart}
-use Rattle.timeline.specs.Values.{change_shown, change_texts}
+use Rattle.timeline.specs.Common.{utf8_lossy, Change, Exact, NamesOnce, Event, Setup, view, moment, event_text, Changed, EventRange, change_text, rows, IsListing, has, change_shown, change_texts, StepPart}
 
 -- A line of trace events. Invalid UTF-8 is replaced by U+FFFD, and all after the first 400 bytes by
 -- two dots.

@@ -2,20 +2,17 @@
 //! open.
 #![tactic(auto)]
 
-mod changes;
 mod deeds;
 mod drawing;
 mod drawn;
 mod marks;
 mod observing;
-mod opening;
 mod page;
 mod parts;
 mod picture_parts;
 mod row_parts;
 mod steps;
 mod trace_events;
-mod values;
 mod writing;
 
 pub use drawing::{Drawing, Picture, Window, draw_run, picture_of};

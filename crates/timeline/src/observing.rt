@@ -1,11 +1,9 @@
 //! Steps a run once, and collects all that a picture shows of it.
 ghost use Rattle.std.specs.Prelude.{◌≡◌, ◌≤◌, None, List, [], length, IfOk, IfErr};
-ghost use Rattle.timeline.specs.{Common.Accepts, Common.Event, Common.HasFollowed, Common.HasSearched, Common.IsAt, Common.findings_in, Common.setup_refusal, Common.start, Pictures.HasOpened, Pictures.IsSeen, Pictures.Stops, Pictures.fault_of, Steps.AreSteps};
+ghost use Rattle.timeline.specs.{Common.Accepts, Common.Event, Common.HasFollowed, Common.HasOpened, Common.HasSearched, Common.IsAt, Common.findings_in, Common.setup_refusal, Common.start, Pictures.IsSeen, Pictures.Stops, Pictures.fault_of, Steps.AreSteps};
 
-use crate::opening::Opening;
 use crate::parts::StepPart;
-use crate::steps::{Ranged, Steps};
-use crate::values::Values;
+use crate::steps::Steps;
 use explanations::{Report, reports_of};
 use findings::{Found, Search};
 use machine::{Event, Setup, State};
@@ -15,6 +13,7 @@ use runs::{Ended, Pair, ReportFault, drive};
 use sentences::Run;
 use std::alloc::{AllocError, Global};
 use std::marker::Brand;
+use timeline_values::{Opening, Ranged, Values};
 
 /// All that a picture shows of a run.
 #[derive(Drop)]

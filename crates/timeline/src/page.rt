@@ -18,16 +18,11 @@ mod waiting;
 /// The page before the data.
 pub(crate) const BEFORE: [&str; 3] = [head::TEXT, style::TEXT, body::TEXT];
 
-/// The page after the data.
-pub(crate) const AFTER: [&str; 10] = [
-    foot::TEXT,
-    setting::TEXT,
-    model::TEXT,
-    waiting::TEXT,
-    lanes::TEXT,
-    picture::TEXT,
-    panel::TEXT,
-    navigation::TEXT,
-    opening::TEXT,
-    end::TEXT,
-];
+/// The page after the data: its states.
+pub(crate) const MODEL: [&str; 4] = [foot::TEXT, setting::TEXT, model::TEXT, waiting::TEXT];
+
+/// The page after its states: its picture.
+pub(crate) const PICTURE: [&str; 2] = [lanes::TEXT, picture::TEXT];
+
+/// The page after its picture: its panel, what a reader can do, its end.
+pub(crate) const ACTIONS: [&str; 4] = [panel::TEXT, navigation::TEXT, opening::TEXT, end::TEXT];

@@ -1,8 +1,7 @@
 //! Collects the events of a part of a run, with the changes of each, while the run is stepped.
-ghost use Rattle.std.specs.Prelude.{◌≡◌, None, [], map, string_bytes, IfOk};
-ghost use Rattle.timeline.specs.{Common.EventRange, Common.IsAfter, Steps.AreSteps, Steps.IsStep, Steps.shown_line};
+ghost use Rattle.std.specs.Prelude.{◌≡◌, [], map, string_bytes, IfOk};
+ghost use Rattle.timeline.specs.{Common.IsAfter, Steps.AreSteps, Steps.IsStep, Steps.shown_line};
 
-use crate::changes::change_parts;
 use crate::deeds::deed_of;
 use crate::parts::StepPart;
 use places::Record;
@@ -10,19 +9,11 @@ use run_log::{EventRange, change_lines, changes_of};
 use runs::{Observed, Observer};
 use script::EventText;
 use std::alloc::{AllocError, Global};
-use std::marker::{Brand, PhantomData};
+use std::marker::PhantomData;
+use timeline_values::{Ranged, change_parts};
 
 /// The most bytes of a line of trace events.
 const LONGEST: usize = 400;
-
-/// The range of the events that are collected, for proofs.
-pub trait Ranged {
-    ghost range: { EventRange };
-}
-
-impl Ranged for Brand {
-    ghost range = { record { from = 0; to = None } };
-}
 
 /// An observer that collects the events of a range, each with the lines of its changes.
 #[derive(Drop)]

@@ -1,6 +1,6 @@
 //! Writes pictures as bytes.
 use crate::drawn::Drawn;
-use crate::page::{AFTER, BEFORE};
+use crate::page::{ACTIONS, BEFORE, MODEL, PICTURE};
 use crate::parts::PagePart;
 use crate::picture_parts::{page_part, trace_file};
 use std::alloc::{AllocError, Global};
@@ -32,12 +32,36 @@ fn put_texts(out: &mut Vec<u8>, texts: &[&str]) -> Result<(), AllocError> {
     Ok(())
 }
 
+// Appends the page before the data.
+fn put_before(out: &mut Vec<u8>) -> Result<(), AllocError> {
+    put_texts(out, &BEFORE)
+}
+
+fn put_model(out: &mut Vec<u8>) -> Result<(), AllocError> {
+    put_texts(out, &MODEL)
+}
+
+fn put_picture(out: &mut Vec<u8>) -> Result<(), AllocError> {
+    put_texts(out, &PICTURE)
+}
+
+fn put_actions(out: &mut Vec<u8>) -> Result<(), AllocError> {
+    put_texts(out, &ACTIONS)
+}
+
+// Appends the page after the data.
+fn put_after(out: &mut Vec<u8>) -> Result<(), AllocError> {
+    put_model(out)?;
+    put_picture(out)?;
+    put_actions(out)
+}
+
 // Returns a page with this data.
 fn page_around(alloc: Global, json: &[u8]) -> Result<Vec<u8>, AllocError> {
     let mut out = Vec::new(alloc);
-    put_texts(&mut out, &BEFORE)?;
+    put_before(&mut out)?;
     put_json(&mut out, json)?;
-    put_texts(&mut out, &AFTER)?;
+    put_after(&mut out)?;
     Ok(out)
 }
 

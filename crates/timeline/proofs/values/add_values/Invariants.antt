@@ -1,5 +1,0 @@
-use Rattle.timeline.proofs.Common.{◌≡◌, ◌++◌, take, map, view, value_texts, values_of}
-use Rattle.timeline.proofs.values.add_values.Given as goal
-
-abbrev pub invariant-loop-place : goal.invariant-loop-place
-invariant-loop-place l = map value_texts l.out.items ≡ map value_texts l.fn.out.items ++ values_of l.setup (view l.state) (take l.place-index l.places)

@@ -1,5 +1,0 @@
-use Rattle.timeline.proofs.Common.{◌≡◌, view, bytes_below}
-use Rattle.timeline.proofs.values.bytes_of.Given as goal
-
-abbrev pub invariant-loop-index : goal.invariant-loop-index
-invariant-loop-index l = l.bytes.items ≡ bytes_below (view l.state) l.region l.index

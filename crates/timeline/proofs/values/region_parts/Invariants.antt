@@ -1,7 +1,0 @@
-use Rattle.std.proofs.Common.{take}
-use Rattle.machine.specs.Whole.{view}
-use Rattle.timeline.specs.Values.{AreRegions}
-use Rattle.timeline.proofs.values.region_parts.Given as goal
-
-abbrev pub invariant-loop-region : goal.invariant-loop-region
-invariant-loop-region l = AreRegions l.setup (view l.state) l.count (take l.region-index l.regions) l.out.items

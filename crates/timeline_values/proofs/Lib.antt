@@ -1,0 +1,3 @@
+pub mod Common
+mod Opened
+mod Valued
