@@ -124,7 +124,7 @@ fn add_discovery(
     add_schedule(alloc, out, found)
 }
 
-// Appends the odds that so many runs miss a schedule.
+// Appends the odds that this number of runs misses a schedule.
 fn add_odds(alloc: Global, out: &mut String, runs: u64) -> Result<(), AllocError> {
     if runs < FEWEST_RUNS {
         return Ok(());
