@@ -1,6 +1,7 @@
 //! The command line: reads its words, and returns the job that they describe.
 #![tactic(auto)]
 
+mod program;
 mod table;
 mod task;
 mod version;

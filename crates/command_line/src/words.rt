@@ -2,13 +2,11 @@
 ghost use Rattle.std.specs.Prelude.{◌↔◌, IsTrue, IfOk, IfNone};
 ghost use Rattle.command_line.specs.Jobs.{LosesScript, IsInRange, AreInRange, AreClients, AreReported, AreRuns, AreThreads};
 
-use crate::table::{
-    FORMS, KINDS, OPTIONS, Operand, Shape, Verb, Word, file_words, report_words, thread_words,
-};
+use crate::program::program;
+use crate::table::{Verb, Word, file_words, report_words, thread_words};
 use crate::task::{Exploration, Form, Job, ReportForm};
-use crate::version::VERSION;
 use clap::error::ErrorKind;
-use clap::{Arg, ArgAction, ArgMatches, Command, Error, value_parser};
+use clap::{ArgMatches, Command, Error};
 use std::alloc::{AllocError, Global};
 
 const ONTO_SCRIPT: &str = "OUT is SCRIPT's own file: the script would be overwritten";
@@ -46,9 +44,6 @@ const MOST_EVENTS: u32 = 65536;
 /// The most threads that make the runs of a search.
 const MOST_THREADS: u32 = 64;
 
-/// The place of an option that help lists after all others, as it lists `--help`.
-const LAST: usize = 999;
-
 const BEYOND_TURNS: &str = "invalid value for '--turns <N>': it must be 1 to 1000000";
 
 const BEYOND_WORKERS: &str = "invalid value for '--kernel <Q>': it must be 1 to 8";
@@ -67,61 +62,6 @@ const BEYOND_EVENTS: &str = "invalid value for '--events <M>': it must be 1 to 6
 const BEYOND_THREADS: &str = "invalid value for '--threads <T>': it must be 1 to 64";
 
 const SEVERAL_RUNS: &str = "'--sarif' takes one RUN";
-
-// Returns an operand as clap's argument.
-fn arg_of<'a>(alloc: Global, operand: &'a Operand) -> Result<Arg<'a>, AllocError> {
-    let arg = Arg::new(alloc, operand.name).help(operand.help);
-    Ok(match operand.shape {
-        Shape::File => arg.required(true).action(ArgAction::Set),
-        Shape::Files => arg.required(true).num_args(1..).action(ArgAction::Append),
-        Shape::Named(word) => arg.long(word).action(ArgAction::Set),
-        Shape::Number(word) => arg
-            .long(word)
-            .value_parser(value_parser!(u32))
-            .action(ArgAction::Set),
-        Shape::Port => arg
-            .long("port")
-            .required(true)
-            .value_parser(value_parser!(u16))
-            .action(ArgAction::Set),
-        Shape::Form => arg
-            .long("form")
-            .default_value("2")
-            .value_parser(FORMS)
-            .action(ArgAction::Set),
-        Shape::Kind(word) => arg
-            .long(word)
-            .value_name("KIND")
-            .value_parser(KINDS)
-            .hide_possible_values(word != "kind")
-            .action(ArgAction::Append),
-        Shape::Flag(word) => arg.long(word).action(ArgAction::SetTrue),
-        Shape::Sarif => arg
-            .long("sarif")
-            .action(ArgAction::SetTrue)
-            .conflicts_with("json")?,
-        Shape::Seed => arg
-            .long("seed")
-            .value_parser(value_parser!(u64))
-            .action(ArgAction::Set),
-        Shape::Until => arg
-            .long("until")
-            .value_name("P = V")
-            .action(ArgAction::Set)
-            .conflicts_with("KIND")?,
-    })
-}
-
-// Returns a subcommand as clap's command.
-fn command_of<'a>(alloc: Global, word: &'a Word) -> Result<Command<'a>, AllocError> {
-    let mut command = Command::new(alloc, word.name)
-        .about(word.about)
-        .after_help(word.after);
-    for operand in word.operands {
-        command = command.arg(arg_of(alloc, operand)?)?;
-    }
-    Ok(command)
-}
 
 fn text_of<'a>(matches: &ArgMatches<'a>, name: &str) -> &'a str {
     matches.get_str(name).unwrap_or("")
@@ -395,54 +335,6 @@ fn out_of_range(job: &Job<'_>) -> Option<&'static str>
         Job::Explain { runs, form, .. } => runs_beyond_form(runs.len(), *form),
         _ => None,
     }
-}
-
-// Returns the program with one more subcommand.
-fn with<'a>(
-    command: Command<'a>,
-    word: Result<Command<'a>, AllocError>,
-) -> Result<Command<'a>, AllocError> {
-    command.subcommand(word?)
-}
-
-// Returns the program with more subcommands.
-fn with_all<'a>(
-    alloc: Global,
-    mut command: Command<'a>,
-    words: &'a [Word],
-) -> Result<Command<'a>, AllocError> {
-    for word in words {
-        command = with(command, command_of(alloc, word))?;
-    }
-    Ok(command)
-}
-
-// Returns the option that prints the version.
-fn version_option<'a>(alloc: Global) -> Arg<'a> {
-    Arg::new(alloc, "version")
-        .short('V')
-        .long("version")
-        .help("Print version")
-        .display_order(LAST)
-        .action(ArgAction::Version)
-}
-
-// Returns the program without its subcommands.
-fn bare_program<'a>(alloc: Global) -> Result<Command<'a>, AllocError> {
-    Command::new(alloc, "uringwalk")
-        .version(VERSION)
-        .disable_version_flag(true)
-        .about("A reversible debugger for io_uring programs")
-        .after_help(OPTIONS)
-        .subcommand_required(true)
-        .arg(version_option(alloc))
-}
-
-// Returns the program with all its subcommands.
-fn program<'a>(alloc: Global) -> Result<Command<'a>, AllocError> {
-    let command = with_all(alloc, bare_program(alloc)?, file_words())?;
-    let command = with_all(alloc, command, report_words())?;
-    with_all(alloc, command, thread_words())
 }
 
 // Returns the job that the words describe, whatever its files and numbers are.
