@@ -10,43 +10,48 @@ use std::alloc::{AllocError, Global};
 /// The place of an option that help lists after all others, as it lists `--help`.
 const LAST: usize = 999;
 
-// Returns whether the words must have an argument of this shape.
-fn is_required(shape: Shape) -> bool {
-    matches!(shape, Shape::File | Shape::Files | Shape::Port)
-}
-
-// Returns what each use of an argument of this shape does.
-fn action_of(shape: Shape) -> ArgAction {
-    match shape {
-        Shape::Files | Shape::Kind(_) => ArgAction::Append,
-        Shape::Flag(_) | Shape::Sarif => ArgAction::SetTrue,
-        _ => ArgAction::Set,
-    }
-}
-
 // Returns an operand as clap's argument.
 fn arg_of<'a>(alloc: Global, operand: &'a Operand) -> Result<Arg<'a>, AllocError> {
-    let arg = Arg::new(alloc, operand.name)
-        .help(operand.help)
-        .required(is_required(operand.shape))
-        .action(action_of(operand.shape));
-    match operand.shape {
-        Shape::File => Ok(arg),
-        Shape::Files => Ok(arg.num_args(1..)),
-        Shape::Named(word) | Shape::Flag(word) => Ok(arg.long(word)),
-        Shape::Number(word) => Ok(arg.long(word).value_parser(value_parser!(u32))),
-        Shape::Port => Ok(arg.long("port").value_parser(value_parser!(u16))),
-        Shape::Form => Ok(arg.long("form").default_value("2").value_parser(FORMS)),
-        Shape::Kind(word) => Ok(
-            arg.long(word)
-                .value_name("KIND")
-                .value_parser(KINDS)
-                .hide_possible_values(word != "kind"),
-        ),
-        Shape::Sarif => arg.long("sarif").conflicts_with("json"),
-        Shape::Seed => Ok(arg.long("seed").value_parser(value_parser!(u64))),
-        Shape::Until => arg.long("until").value_name("P = V").conflicts_with("KIND"),
-    }
+    let arg = Arg::new(alloc, operand.name).help(operand.help);
+    Ok(match operand.shape {
+        Shape::File => arg.required(true).action(ArgAction::Set),
+        Shape::Files => arg.required(true).num_args(1..).action(ArgAction::Append),
+        Shape::Named(word) => arg.long(word).action(ArgAction::Set),
+        Shape::Number(word) => arg
+            .long(word)
+            .value_parser(value_parser!(u32))
+            .action(ArgAction::Set),
+        Shape::Port => arg
+            .long("port")
+            .required(true)
+            .value_parser(value_parser!(u16))
+            .action(ArgAction::Set),
+        Shape::Form => arg
+            .long("form")
+            .default_value("2")
+            .value_parser(FORMS)
+            .action(ArgAction::Set),
+        Shape::Kind(word) => arg
+            .long(word)
+            .value_name("KIND")
+            .value_parser(KINDS)
+            .hide_possible_values(word != "kind")
+            .action(ArgAction::Append),
+        Shape::Flag(word) => arg.long(word).action(ArgAction::SetTrue),
+        Shape::Sarif => arg
+            .long("sarif")
+            .action(ArgAction::SetTrue)
+            .conflicts_with("json")?,
+        Shape::Seed => arg
+            .long("seed")
+            .value_parser(value_parser!(u64))
+            .action(ArgAction::Set),
+        Shape::Until => arg
+            .long("until")
+            .value_name("P = V")
+            .action(ArgAction::Set)
+            .conflicts_with("KIND")?,
+    })
 }
 
 // Returns operands as clap's arguments.

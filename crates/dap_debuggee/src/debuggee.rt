@@ -105,7 +105,8 @@ impl Debuggee {
         }
     }
 
-    /// Takes over the breakpoints that the editor set for an earlier run, which then has none.
+    /// Takes over what the editor set for an earlier run, after `set_all`, once nothing can fail:
+    /// the next `setBreakpoints` adds to it. The earlier run still stops where it did.
     pub fn take_wanted(&mut self, earlier: &mut Debuggee)
         ensures same { self.new ≡ self.old }
         ensures earlier { earlier.new ≡ earlier.old }

@@ -30,7 +30,7 @@ impl Members {
     }
 
     /// Adds a number.
-    pub fn number(&mut self, name: &str, number: u64) -> Result<(), AllocError> {
+    pub(crate) fn number(&mut self, name: &str, number: u64) -> Result<(), AllocError> {
         self.add(name, Value::from(number))
     }
 

@@ -43,7 +43,8 @@ impl Debuggee {
         self.run_back(thread)
     }
 
-    /// Replies to a request about the run. One that begins or ends a session is refused.
+    /// Replies to a request about the run. A request about the session is refused: `initialize`,
+    /// `launch`, `configurationDone`, `restart` and `disconnect`.
     pub fn reply(&mut self, request: Request) -> Result<Reply, Refusal>
         ensures moved { OnOk result (Moves self.old request self.new) }
         ensures shown { IfOk result (λ r. Shows self.old request r.body) }

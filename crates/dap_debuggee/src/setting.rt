@@ -353,8 +353,9 @@ impl Debuggee {
         Ok(Reply::of(None))
     }
 
-    /// Sets the breakpoints that the editor set for an earlier run. Only their filters are kept:
-    /// where the run stops at findings, they choose the one that it names.
+    /// Stops where the editor set breakpoints for an earlier run. Only their filters are kept:
+    /// where the run stops at findings, they choose the one that it names. `take_wanted` keeps
+    /// the others.
     pub fn set_all(&mut self, earlier: &Debuggee) -> Result<(), Refusal>
         ensures { self.new.session ≡ self.old.session }
     {

@@ -9,11 +9,9 @@ use Rattle.dap_messages.specs.declared.command.Command.{Command}
 use Rattle.dap_messages.specs.declared.command.Command.TheVariants as command
 use Rattle.dap_messages.specs.declared.fault.RequestFault.{RequestFault}
 use Rattle.dap_messages.specs.declared.fault.RequestFault.TheVariants.{NotAnObject, NotARequest, UnknownCommand}
-use Rattle.dap_messages.specs.declared.field.Field.{Field}
 use Rattle.dap_messages.specs.declared.field.Field.TheVariants as field
 use Rattle.dap_messages.specs.declared.request.Request.{Request}
 use Rattle.dap_messages.specs.declared.request.Request.TheVariants as request
-use Rattle.dap_messages.specs.declared.request.StepArguments.{StepArguments}
 use Rattle.dap_messages.specs.Arguments.{breakpoint_locations, completions, data_breakpoint_info, disassemble, evaluate, goto_targets, initialize, launch, read_memory, restart, set_breakpoints, stack_trace, step, variables, exception_filter, data_breakpoint, function_breakpoint, instruction_breakpoint}
 use Rattle.dap_messages.specs.Commands.{command_named}
 use Rattle.dap_messages.specs.Faults.{◌>>=◌}
@@ -22,29 +20,6 @@ use Rattle.dap_messages.specs.Values.{member_of, whole_of, needed, given, items_
 -- A request with the arguments that were read, or the fault of reading them.
 abbrev pub as_request : {A : Type 0} → (A → Request) → Result A RequestFault → Result Request RequestFault
 as_request make read = read >>= λ x. Ok (make x)
-
--- The request of a command that steps a thread.
-abbrev pub stepping : Command → StepArguments → Request
-stepping command.Next a = request.Next a
-stepping command.StepIn a = request.StepIn a
-stepping command.StepOut a = request.StepOut a
-stepping c a = request.StepBack a
-
--- The member with the number of a command that has no other argument.
-abbrev pub number_field : Command → Field
-number_field command.Scopes = field.FrameId
-number_field command.StepInTargets = field.FrameId
-number_field command.Source = field.SourceReference
-number_field c = field.ThreadId
-
--- The request of such a command.
-abbrev pub numbered : Command → ℕ → Request
-numbered command.Scopes n = request.Scopes n
-numbered command.Continue n = request.Continue n
-numbered command.ReverseContinue n = request.ReverseContinue n
-numbered command.ExceptionInfo n = request.ExceptionInfo n
-numbered command.StepInTargets n = request.StepInTargets n
-numbered c n = request.Source n
 
 -- The request with a command and these arguments.
 abbrev pub arguments_of : Command → Option Data → Result Request RequestFault

@@ -2,7 +2,7 @@
 ghost use Rattle.std.specs.Prelude.{◌≡◌, Some, option_map};
 ghost use Rattle.serde_json.specs.View.{view};
 ghost use Rattle.dap_messages.specs.Faults.{Gives};
-ghost use Rattle.dap_messages.specs.Requests.{arguments_of, command_in, is_request, number_field, numbered, request_of, seq_in, stepping, text_in};
+ghost use Rattle.dap_messages.specs.Requests.{arguments_of, command_in, is_request, request_of, seq_in, text_in};
 ghost use Rattle.dap_messages.specs.Values.{member_of};
 ghost use Rattle.dap_messages.specs.declared.field.Field.TheVariants as field;
 ghost use Rattle.dap_messages.specs.Views.{data_in};
@@ -16,46 +16,9 @@ use crate::fault::RequestFault;
 use crate::field::Field;
 use crate::found::Found;
 use crate::items::items_at;
-use crate::request::{Request, StepArguments};
+use crate::request::Request;
 use serde_json::Value;
 use std::alloc::Global;
-
-// Returns the request of a command that steps a thread.
-fn stepping(command: Command, arguments: StepArguments) -> Request
-    ensures { result ≡ stepping command arguments }
-{
-    match command {
-        Command::Next => Request::Next(arguments),
-        Command::StepIn => Request::StepIn(arguments),
-        Command::StepOut => Request::StepOut(arguments),
-        _ => Request::StepBack(arguments),
-    }
-}
-
-// Returns the member with the number of a command that has no other argument.
-fn number_field(command: Command) -> Field
-    ensures { result ≡ number_field command }
-{
-    match command {
-        Command::Scopes | Command::StepInTargets => Field::FrameId,
-        Command::Source => Field::SourceReference,
-        _ => Field::ThreadId,
-    }
-}
-
-// Returns the request of such a command.
-fn numbered(command: Command, number: u64) -> Request
-    ensures { result ≡ numbered command number }
-{
-    match command {
-        Command::Scopes => Request::Scopes(number),
-        Command::Continue => Request::Continue(number),
-        Command::ReverseContinue => Request::ReverseContinue(number),
-        Command::ExceptionInfo => Request::ExceptionInfo(number),
-        Command::StepInTargets => Request::StepInTargets(number),
-        _ => Request::Source(number),
-    }
-}
 
 // Reads the arguments of a command.
 fn read_arguments(
@@ -72,8 +35,15 @@ fn read_arguments(
         Command::Disconnect => Request::Disconnect,
         Command::Threads => Request::Threads,
         Command::StackTrace => Request::StackTrace(stack_trace(object)?),
+        Command::Scopes => Request::Scopes(object.whole(Field::FrameId)?),
         Command::Variables => Request::Variables(variables(object)?),
         Command::Evaluate => Request::Evaluate(evaluate(alloc, object)?),
+        Command::Next => Request::Next(step(object)?),
+        Command::StepIn => Request::StepIn(step(object)?),
+        Command::StepOut => Request::StepOut(step(object)?),
+        Command::StepBack => Request::StepBack(step(object)?),
+        Command::Continue => Request::Continue(object.whole(Field::ThreadId)?),
+        Command::ReverseContinue => Request::ReverseContinue(object.whole(Field::ThreadId)?),
         Command::SetBreakpoints => Request::SetBreakpoints(set_breakpoints(alloc, object)?),
         Command::DataBreakpointInfo => {
             Request::DataBreakpointInfo(data_breakpoint_info(alloc, object)?)
@@ -84,6 +54,7 @@ fn read_arguments(
         Command::SetExceptionBreakpoints => {
             Request::SetExceptionBreakpoints(items_at(alloc, object, Field::Filters)?)
         }
+        Command::ExceptionInfo => Request::ExceptionInfo(object.whole(Field::ThreadId)?),
         Command::ReadMemory => Request::ReadMemory(read_memory(alloc, object)?),
         Command::BreakpointLocations => {
             Request::BreakpointLocations(breakpoint_locations(alloc, object)?)
@@ -99,19 +70,12 @@ fn read_arguments(
         Command::SetInstructionBreakpoints => {
             Request::SetInstructionBreakpoints(items_at(alloc, object, Field::Breakpoints)?)
         }
+        Command::StepInTargets => Request::StepInTargets(object.whole(Field::FrameId)?),
         Command::SetFunctionBreakpoints => {
             Request::SetFunctionBreakpoints(items_at(alloc, object, Field::Breakpoints)?)
         }
+        Command::Source => Request::Source(object.whole(Field::SourceReference)?),
         Command::LoadedSources => Request::LoadedSources,
-        Command::Next | Command::StepIn | Command::StepOut | Command::StepBack => {
-            stepping(command, step(object)?)
-        }
-        Command::Scopes
-        | Command::Continue
-        | Command::ReverseContinue
-        | Command::ExceptionInfo
-        | Command::StepInTargets
-        | Command::Source => numbered(command, object.whole(number_field(command))?),
     };
     Ok(request)
 }

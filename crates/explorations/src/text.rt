@@ -15,7 +15,7 @@ fn ending(count: u64) -> &'static str {
     if count == 1 { "" } else { "s" }
 }
 
-// Appends a text that was made, unless there was no memory for it.
+// Appends a text, or passes on that no memory was left to make it.
 fn add(out: &mut String, text: Result<String, AllocError>) -> Result<(), AllocError> {
     out.push_str(text?.as_str())
 }

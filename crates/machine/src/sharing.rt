@@ -38,7 +38,7 @@ impl Machine {
         self.share_around(alloc, rings, own)
     }
 
-    // Returns a copy of these parts and of copies of the others.
+    // Builds a copy of the machine from these parts and from copies of the others.
     fn share_around(
         &mut self,
         alloc: Global,
@@ -54,7 +54,7 @@ impl Machine {
         Ok(self.shared_with(rings, requests, own))
     }
 
-    // Returns a copy of these parts, with the numbers of this machine.
+    // Builds a copy of the machine from these parts. Its other fields are this machine's.
     fn shared_with(
         &self,
         rings: (SharedSubRing, SharedComRing),
@@ -146,7 +146,7 @@ impl SharedMachine {
         Ok(self.with_parts(rings, requests, own))
     }
 
-    // Returns the machine of these parts, with the numbers of this copy.
+    // Builds the machine from these parts. Its other fields are this copy's.
     fn with_parts(
         &self,
         rings: (SubRing, ComRing),
@@ -201,8 +201,8 @@ impl SharedMachine {
     }
 }
 
-/// Copies the parts of a machine that no copies share.
-pub(crate) fn copy_unshared(
+// Copies the backlog and the threads, which copies never share.
+fn copy_unshared(
     alloc: Global,
     backlog: &Backlog,
     threads: &Threads,

@@ -18,11 +18,11 @@ mod waiting;
 /// The page before the data.
 pub(crate) const BEFORE: [&str; 3] = [head::TEXT, style::TEXT, body::TEXT];
 
-/// The page after the data: its states.
+/// The page after the data, up to the scripts that compute states.
 pub(crate) const MODEL: [&str; 4] = [foot::TEXT, setting::TEXT, model::TEXT, waiting::TEXT];
 
-/// The page after its states: its picture.
+/// The scripts that draw.
 pub(crate) const PICTURE: [&str; 2] = [lanes::TEXT, picture::TEXT];
 
-/// The page after its picture: its panel, what a reader can do, its end.
+/// The scripts that react to a reader, and the page's end.
 pub(crate) const ACTIONS: [&str; 4] = [panel::TEXT, navigation::TEXT, opening::TEXT, end::TEXT];

@@ -32,7 +32,8 @@ fn put_texts(out: &mut Vec<u8>, texts: &[&str]) -> Result<(), AllocError> {
     Ok(())
 }
 
-// Appends the page before the data.
+// Appends the page before the data. Each list of texts has its own function, which is proved
+// faster.
 fn put_before(out: &mut Vec<u8>) -> Result<(), AllocError> {
     put_texts(out, &BEFORE)
 }

@@ -29,7 +29,7 @@ impl Ranged for Brand {
 pub struct Opening<K> {
     alloc: Global,
     range: EventRange,
-    // The values at moment 0, and from the first moment on those at that moment.
+    /// The values at moment 0, and from the first moment on those at that moment.
     pub values: Values,
     proof: PhantomData<K>,
 }

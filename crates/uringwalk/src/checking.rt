@@ -33,7 +33,7 @@ fn report_length<R: Files + Print + AllocGlobal>(
     Ok(ExitCode::FAILURE)
 }
 
-// Prints the faults of a script's text, and returns the exit status.
+// Prints the faults of a script's text, or `ok` if it has none. Returns the exit status.
 fn report_faults<R: Files + Print + AllocGlobal>(
     rt: &R,
     path: &str,
