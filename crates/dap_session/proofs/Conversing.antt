@@ -6,10 +6,10 @@ use Rattle.std.specs.Io.KnownBytes.{Appends, Consumes, IsAtEnd}
 use Rattle.dap_frames.proofs.Pieces.{decode_pieces}
 use Rattle.dap_frames.specs.Decoding.{Decoded, Partial, decode, start}
 use Rattle.dap_frames.specs.Views.{contents}
-use Rattle.dap_debuggee.specs.Posting.{Posted, Posts}
-use Rattle.dap_debuggee.specs.declared.answer.Answer.{Answer}
 use Rattle.dap_session.specs.Adapters.{AdapterState}
 use Rattle.dap_session.specs.Messages.{Answers}
+use Rattle.dap_session.specs.Posting.{Posted, Posts}
+use Rattle.dap_session.specs.declared.answer.Answer.{Answer}
 use Rattle.dap_session.specs.Serving.{Converses, ServingState, Served, Step, StepsTo, Takes, Took, fresh_adapter}
 
 -- Messages after others.

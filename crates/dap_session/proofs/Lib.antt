@@ -1,1 +1,3 @@
 pub mod Conversing
+pub mod Searching
+pub mod Watching

@@ -1,17 +1,21 @@
 //! The state of a debug adapter, and its answers to messages.
 ghost use Rattle.std.specs.Prelude.{◌≡◌, IfOk, OnOk, OnErr, None, Ok, MatchResult, option_map, is_ok, true, false};
 ghost use Rattle.serde_json.specs.View.{view};
-ghost use Rattle.dap_debuggee.specs.Moves.{started};
-ghost use Rattle.dap_debuggee.specs.Owing.{Settles, answered, asked_in, outcome_in, outcome_of, owed_by};
-ghost use Rattle.dap_debuggee.specs.Runs.{walk_of};
 ghost use Rattle.dap_session.specs.Adapters.{Handles, IsRestarted, Launches, RunReplies, configured, is_accepted, with_run};
 ghost use Rattle.dap_session.specs.Messages.{Announces, Answers, AnswersValue, EndsAt, EndsOnlyBy, asked_of, nobody};
+ghost use Rattle.dap_session.specs.Moves.{started};
+ghost use Rattle.dap_session.specs.Owing.{Settles, answered, asked_in, outcome_in, outcome_of, owed_by};
+ghost use Rattle.dap_session.specs.Runs.{walk_of};
 ghost use Rattle.dap_session.specs.Serving.{fresh_adapter};
 
+use crate::answer::{Answer, Asked, Events, Reply, Response};
+use crate::base::Base;
 use crate::capabilities::capabilities;
+use crate::debuggee::Debuggee;
 use crate::loading::load;
-use crate::moves::moves;
-use dap_debuggee::{Answer, Asked, Base, Debuggee, Events, Reason, Refusal, Reply, Response};
+use crate::refusal::{Reason, Refusal};
+use crate::replying::moves;
+use crate::wanted::Wanted;
 use dap_messages::{
     InitializeArguments, LaunchArguments, Program, Request, RequestFault, Text, command_name_in,
     read_request, seq_in,
@@ -19,6 +23,7 @@ use dap_messages::{
 use serde_json::Value;
 use std::alloc::{AllocError, Global};
 use std::marker::Model;
+use std::mem;
 use std::rt::Files;
 
 /// How far a session has come.
@@ -321,19 +326,19 @@ impl Adapter {
     ) -> Result<(Debuggee, Events), Refusal> {
         let mut debuggee = load(rt, self.base, program)?;
         if let Some(old) = &self.debuggee {
-            debuggee.set_all(old)?;
+            debuggee.set_all(&old.wanted)?;
         }
         let events = debuggee.start(stops_on_entry)?;
         Ok((debuggee, events))
     }
 
-    // Gives the breakpoints of the run, which then has none, to the one that replaces it.
-    fn give_wanted(&mut self, next: &mut Debuggee)
-        ensures same { self.new ≡ self.old }
-        ensures next { next.new ≡ next.old }
+    // Returns the breakpoints of the run, which then has none.
+    fn take_wanted(&mut self) -> Wanted
+        ensures { self.new ≡ self.old }
     {
-        if let Some(debuggee) = &mut self.debuggee {
-            next.take_wanted(debuggee);
+        match &mut self.debuggee {
+            Some(debuggee) => mem::replace(&mut debuggee.wanted, Wanted::new(self.alloc)),
+            None => Wanted::new(self.alloc),
         }
     }
 
@@ -348,7 +353,7 @@ impl Adapter {
         ensures err { OnErr result (self.new ≡ self.old) }
     {
         let (mut debuggee, events) = self.reloaded(rt, program, stops_on_entry)?;
-        self.give_wanted(&mut debuggee);
+        debuggee.wanted = self.take_wanted();
         self.debuggee = Some(debuggee);
         self.stops_on_entry = stops_on_entry;
         Ok(Reply { body: None, events })

@@ -1,6 +1,6 @@
 //! What the adapter can do, as the response to `initialize` says it.
 
-use dap_debuggee::Members;
+use crate::members::Members;
 use serde_json::Value;
 use std::alloc::{AllocError, Global};
 

@@ -1,11 +1,29 @@
-//! A debug adapter: the phases of a session in the Debug Adapter Protocol, and its loop over
-//! messages.
+//! A debug adapter: what an editor requests of a run in the Debug Adapter Protocol.
 #![tactic(auto)]
 
 mod adapter;
+mod addresses;
+mod answer;
+mod base;
+mod breakpoints;
 mod capabilities;
+mod completing;
+mod conditions;
+mod debuggee;
+mod event_names;
+mod lines;
 mod loading;
-mod moves;
+mod looking;
+mod members;
+mod moving;
+mod outbox;
+mod refusal;
+mod replying;
+mod searched;
 mod serving;
+mod setting;
+mod sourcing;
+mod verdicts;
+mod wanted;
 
 pub use serving::{SessionFault, serve};

@@ -1,9 +1,11 @@
 //! Opens the run of a script or of a trace.
 ghost use Rattle.std.specs.Prelude.{◌≡◌, ◌≤◌, None, length, IfOk};
 ghost use Rattle.scenario.specs.Setups.{setup_refusal};
-ghost use Rattle.dap_debuggee.specs.Runs.{walk_of};
+ghost use Rattle.dap_session.specs.Runs.{walk_of};
 
-use dap_debuggee::{Base, Debuggee, Refusal};
+use crate::base::Base;
+use crate::debuggee::Debuggee;
+use crate::refusal::Refusal;
 use dap_messages::{Program, Text};
 use debug_server::{RunFault, Session, script_of};
 use machine::{Event, Setup};
