@@ -255,28 +255,7 @@ fn print_version(rt: &(impl Print + Eprint), version: &clap::Error) -> ExitCode 
     }
 }
 
-// Runs a subcommand, unless it would overwrite a script. Returns the exit status.
-fn run_if_safe<
-    R: Files
-        + Input
-        + Print
-        + Eprint
-        + AllocGlobal
-        + Threads
-        + Wait
-        + Clock
-        + Net<Listener = TcpListener, Stream = TcpStream>
-        + Sync,
->(rt: &R, job: Job<'_>, is_terminal: bool) -> Result<ExitCode, Fault>
-    requires { IsInRange job }
-{
-    if loses_script(rt, &job)? {
-        return Ok(fail(rt, 2, &ONTO_SCRIPT));
-    }
-    run(rt, job, is_terminal)
-}
-
-// Runs a subcommand, and reports its fault. Returns the exit status.
+// Runs a subcommand, unless it would overwrite a script.
 fn carry_out<
     R: Files
         + Input
@@ -291,8 +270,12 @@ fn carry_out<
 >(rt: &R, job: Job<'_>, is_terminal: bool) -> ExitCode
     requires { IsInRange job }
 {
-    match run_if_safe(rt, job, is_terminal) {
-        Ok(status) => status,
+    match loses_script(rt, &job) {
+        Ok(false) => match run(rt, job, is_terminal) {
+            Ok(status) => status,
+            Err(fault) => fail(rt, 1, &fault),
+        },
+        Ok(true) => fail(rt, 2, &ONTO_SCRIPT),
         Err(fault) => fail(rt, 1, &fault),
     }
 }
