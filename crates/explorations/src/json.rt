@@ -45,15 +45,11 @@ fn schedule_of(
     }
 }
 
-// Returns the result of a search as an object of JSON.
-fn object_of<'a>(
-    alloc: Global,
-    exploration: &Exploration<'a>,
-) -> Result<ExplorationObject<'a>, AllocError> {
+/// Returns the result of a search as an object of JSON on one line.
+pub fn json_of(alloc: Global, exploration: &Exploration<'_>) -> Result<String, AllocError> {
     let found = exploration.discovery;
     let schedule = found.map(|it| it.schedule);
-    let items = schedule_of(alloc, schedule)?;
-    Ok(ExplorationObject {
+    let object = ExplorationObject {
         found: found.is_some(),
         kind: found.and_then(|it| it.kind),
         moment: found.map(|it| it.moment),
@@ -65,14 +61,9 @@ fn object_of<'a>(
         seen: exploration.seen,
         length: found.map(|it| it.length),
         shrunk: schedule.map(|events| events.len()),
-        schedule: items,
+        schedule: schedule_of(alloc, schedule)?,
         out: found.and_then(|it| it.out),
-    })
-}
-
-/// Returns the result of a search as an object of JSON on one line.
-pub fn json_of(alloc: Global, exploration: &Exploration<'_>) -> Result<String, AllocError> {
-    let object = object_of(alloc, exploration)?;
+    };
     let mut line = line_of(alloc, &object)?;
     line.push('\n')?;
     Ok(line)

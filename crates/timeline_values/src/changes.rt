@@ -2,8 +2,6 @@
 ghost use Rattle.std.specs.Prelude.{◌≡◌, ◌<◌, ◌++◌, length, map, string_bytes, IfOk, OnOk};
 ghost use Rattle.std.specs.List.{flat_map};
 ghost use Rattle.std.specs.Str.Lossy.{utf8_lossy};
-ghost use Rattle.base64.specs.GeneralPurpose.{encode_of};
-ghost use Rattle.base64.specs.Engines.{standard};
 ghost use Rattle.run_log.specs.Lines.{row_place, rows, value_shown};
 ghost use Rattle.timeline_values.specs.Values.{is_byte, byte_of, value_on, values_shown, change_texts, change_shown};
 

@@ -1,5 +1,5 @@
 //! An observer that reads the values of all places at one moment of a run.
-ghost use Rattle.std.specs.Prelude.{◌≡◌, ℕ, None, List, IfOk};
+ghost use Rattle.std.specs.Prelude.{◌≡◌, None, List, IfOk};
 ghost use Rattle.scenario.specs.declared.event.Event.{Event};
 ghost use Rattle.scenario.specs.Setups.{setup_refusal};
 ghost use Rattle.machine.specs.Runs.{start};
