@@ -1,14 +1,7 @@
 -- Lemmas about the first entries of a batch, as requests are added one by one.
-use Rattle.links_drains.proofs.Common.{◌≡◌, ◌≢◌, ℕ, ℤ, zero, suc, Bool, true, false, not, cond, refl, sym, ◌∙◌, ap, List, [], ◌∷◌, ◌++◌, take, length, ◌<◌, ◌≤◌, ◌+◌, ◌⊎◌, inl, inr, append_assoc, length-append, map, subst, arith, Option, Some, None, option_map, is_none, is_some, slice_get, option_map_or, prefix_len, enumerate_from, common_steps, length-take-le, take_all, gets, slice_get-map, slice_get_past, slice_get_within, get_or, get_or_from_slice_get, slice_get-take_below, slice_get-take_above, same_list, cases_lt, cases_eq, eq-eqb, ne_eqb, ◌==◌, option_and_then, ◌&&◌, ◌-◌, Sqe, Row, Keeps, named, keeps_then, WorldState, previous_in, chain_of, error_at, error_of, errors_of, row_of, rows_of, target_of, taken_of, halts, shown_on, error_in, is_linked, ChainContinues, table_owns, table_seen, new_row}
-use Rattle.std.proofs.lemmas.List.FromFn.{length-enumerate_from}
-use Rattle.places.specs.Notes.{Notes}
-use Rattle.places.specs.declared.place.Place.{Place}
-use Rattle.std.specs.Result.{result_err}
+use Rattle.links_drains.proofs.Common.{◌≡◌, ◌≢◌, ℕ, ℤ, zero, suc, Bool, true, false, not, cond, refl, sym, ◌∙◌, ap, List, [], ◌∷◌, ◌++◌, take, length, ◌<◌, ◌≤◌, ◌+◌, ◌⊎◌, inl, inr, append_assoc, length-append, map, subst, arith, Option, Some, None, option_map, is_none, is_some, slice_get, option_map_or, prefix_len, enumerate_from, common_steps, length-take-le, take_all, gets, slice_get-map, slice_get_past, slice_get_within, get_or, get_or_from_slice_get, slice_get-take_below, slice_get-take_above, same_list, cases_lt, cases_eq, eq-eqb, ne_eqb, ◌==◌, option_and_then, ◌&&◌, ◌-◌, Sqe, Row, Keeps, named, keeps_then, WorldState, previous_in, chain_of, error_at, error_of, errors_of, row_of, rows_of, target_of, taken_of, halts, shown_on, error_in, is_linked, ChainContinues, table_owns, table_seen, new_row, Notes, Place, length-enumerate_from, prefix_len_is, result_err}
 use Rattle.opcodes.specs.Check.{check_of, time_of}
-use Rattle.links_drains.proofs.Chains.{enumerated, get-batch}
-use Rattle.links_drains.proofs.RowsKept.{length-push, get-pushed}
-use Rattle.links_drains.proofs.Units.{any_false, any_true}
-use Rattle.std.proofs.lemmas.List.Sums.{prefix_len_is}
+use Rattle.links_drains.proofs.{Chains.enumerated, Chains.get-batch, RowsKept.length-push, RowsKept.get-pushed, Units.any_false, Units.any_true}
 
 pub length_mapped : {X Y : Type 0} (f : X → Y) (xs : List X) → length (map f xs) ≡ length xs
 length_mapped = grind (arith, common_steps)

@@ -1,6 +1,5 @@
 -- How the counts of completed requests change with the table.
-use Rattle.links_drains.proofs.Common.{◌≡◌, ℕ, ℤ, zero, suc, Bool, true, false, cond, List, [], ◌∷◌, ◌++◌, length, ◌+◌, ◌≤◌, arith, Some, slice_get, ◌&&◌, filter, Ended, Row, updated, is_ended, counts, counted_of, ended_of, common_steps}
-use Rattle.std.proofs.lemmas.List.Sums.{length-filter, count_by-le-length}
+use Rattle.links_drains.proofs.Common.{◌≡◌, ℕ, ℤ, zero, suc, Bool, true, false, cond, List, [], ◌∷◌, ◌++◌, length, ◌+◌, ◌≤◌, arith, Some, slice_get, ◌&&◌, filter, Ended, Row, updated, is_ended, counts, counted_of, ended_of, common_steps, length-filter, count_by-le-length}
 
 -- ---- Counts of rows that pass a test
 

@@ -1,8 +1,6 @@
 -- The requests of a batch that complete as they are submitted.
 use Rattle.links_drains.proofs.Common.{◌≡◌, ℕ, ℤ, true, cond, ◌∙◌, ap, List, ◌++◌, length, ◌+◌, ◌-◌, arith, Option, Some, None, slice_get, option_and_then, Sqe, Row, WorldState, error_at, rows_of, direct_result, direct_of, result_in, Direct, is_unfinished}
-use Rattle.links_drains.proofs.Chains.{became, get-appended}
-use Rattle.links_drains.proofs.Listing.{result_of, listed_from}
-use Rattle.links_drains.proofs.Rising.{ends_from, rising_from}
+use Rattle.links_drains.proofs.{Chains.became, Chains.get-appended, Listing.result_of, Listing.listed_from, Rising.ends_from, Rising.rising_from}
 
 pub direct-batch : (w : WorldState) (rows : List Row) (es : List Sqe) → Direct (rows ++ rows_of w (length rows) es) (direct_of w (length rows) es)
 direct-batch w rows es = record {

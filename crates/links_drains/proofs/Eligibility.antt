@@ -1,10 +1,6 @@
 -- Whether a request may be issued, decided from the smallest numbers in the index's sets.
-use Rattle.links_drains.proofs.Common.{◌≡◌, ℕ, ◌<◌, ◌≤◌, Bool, true, false, not, refl, sym, ◌∙◌, ap, List, ◌⊎◌, inl, inr, arith, Option, Some, None, option_map, slice_get, ◌&&◌, ◌||◌, MatchBool, list_any, enumerate_from, cases_eq, cases_lt, cases_Bool, eq-eqb, eqb-true, ltb-true, lt-ltb, both_ways, and_from, and_parts, or_from, or_cases, or_left, or_right, Queued, Issued, Ended, Row, Indexed, is_guard, is_queued, is_unfinished, has, IsNext, is_open, is_under_way}
-use Rattle.entries.specs.declared.row.Phase.{Phase}
-use Rattle.links_drains.specs.Eligible.{drains, waits_for, is_eligible, GuardsFollow}
-use Rattle.links_drains.specs.declared.index.Index.{Index}
-use Rattle.links_drains.proofs.Chains.{enumerated}
-use Rattle.links_drains.proofs.Units.{any_true, any_false, any_of_true, any_of_found, passes_here}
+use Rattle.links_drains.proofs.Common.{◌≡◌, ℕ, ◌<◌, ◌≤◌, Bool, true, false, not, refl, sym, ◌∙◌, ap, List, ◌⊎◌, inl, inr, arith, Option, Some, None, option_map, slice_get, ◌&&◌, ◌||◌, MatchBool, list_any, enumerate_from, cases_eq, cases_lt, cases_Bool, eq-eqb, eqb-true, ltb-true, lt-ltb, both_ways, and_from, and_parts, or_from, or_cases, or_left, or_right, Queued, Issued, Ended, Row, Indexed, is_guard, is_queued, is_unfinished, has, IsNext, is_open, is_under_way, Phase, drains, waits_for, is_eligible, GuardsFollow, Index}
+use Rattle.links_drains.proofs.{Chains.enumerated, Units.any_true, Units.any_false, Units.any_of_true, Units.any_of_found, Units.passes_here}
 
 -- ---- Some numbered item passes
 

@@ -1,9 +1,6 @@
 -- Requests that complete one after the other, by ascending number.
-use Rattle.links_drains.proofs.Common.{◌≡◌, ℕ, ℤ, zero, suc, Bool, true, false, cond, refl, sym, ◌∙◌, ap, List, [], ◌∷◌, length, drop, ◌+◌, ◌<◌, ◌≤◌, arith, Some, None, option_map, slice_get, ◌==◌, eqb-true, slice_get-map, slice_get_within, Row, Ended, updated, Keeps, keeps_then, same_list, Direct, Ending, ended_by, result_in, map_numbered, Stay, table_owns, table_seen, common_steps}
-use Rattle.places.specs.Notes.{Notes}
-use Rattle.links_drains.proofs.Chains.{enumerated}
-use Rattle.links_drains.proofs.Remaining.{stay_then}
-use Rattle.links_drains.proofs.RowsKept.{get-updated}
+use Rattle.links_drains.proofs.Common.{◌≡◌, ℕ, ℤ, zero, suc, Bool, true, false, cond, refl, sym, ◌∙◌, ap, List, [], ◌∷◌, length, drop, ◌+◌, ◌<◌, ◌≤◌, arith, Some, None, option_map, slice_get, ◌==◌, eqb-true, slice_get-map, slice_get_within, Row, Ended, updated, Keeps, keeps_then, same_list, Direct, Ending, ended_by, result_in, map_numbered, Stay, table_owns, table_seen, common_steps, Notes}
+use Rattle.links_drains.proofs.{Chains.enumerated, Remaining.stay_then, RowsKept.get-updated}
 
 pub mapped_at : (f : ℕ → Row → Row) (rows : List Row) (i : ℕ) → slice_get (map_numbered f rows) i ≡ option_map (λ row. f i row) (slice_get rows i)
 mapped_at = grind (arith, slice_get-map, enumerated)

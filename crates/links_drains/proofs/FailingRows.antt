@@ -1,11 +1,6 @@
 -- The requests of a batch that complete as they are submitted, computed row by row.
-use Rattle.links_drains.proofs.Common.{◌≡◌, ℕ, ℤ, zero, suc, Bool, true, false, cond, refl, sym, ◌∙◌, ap, List, [], ◌∷◌, ◌++◌, take, drop, length, replicate, get_or, ◌<◌, ◌≤◌, ◌+◌, ◌-◌, arith, Option, Some, None, option_map, is_some, slice_get, slice_set, ◌==◌, ◌&&◌, ◌||◌, option_and_then, cons_option, list_any, enumerate_from, eq-eqb, eqb-true, ne_eqb, and_left, and_right, get_or-drop, length-drop, length-set, length-replicate, length-take-le, take_all, slice_get_read, slice_get_within, get_or_from_slice_get, Submitted, Sqe, Row, slice_get-set, WorldState, chain_fails, chain_of, error_at, error_of, rows_of, direct_of, direct_result, ecanceled, given, or_else, paired, endings_from, is_unfinished}
-use Rattle.std.proofs.lemmas.List.FromFn.{length-enumerate_from}
-use Rattle.std.proofs.lemmas.List.Folds.{list_any-append}
-use Rattle.links_drains.proofs.Batching.{element_there, length-rows_of, take_more}
-use Rattle.links_drains.proofs.Chains.{Became, became, chain_before, enumerated}
-use Rattle.links_drains.proofs.Listing.{result_of, endings_step}
-use Rattle.links_drains.proofs.Units.{any_false}
+use Rattle.links_drains.proofs.Common.{◌≡◌, ℕ, ℤ, zero, suc, Bool, true, false, cond, refl, sym, ◌∙◌, ap, List, [], ◌∷◌, ◌++◌, take, drop, length, replicate, get_or, ◌<◌, ◌≤◌, ◌+◌, ◌-◌, arith, Option, Some, None, option_map, is_some, slice_get, slice_set, ◌==◌, ◌&&◌, ◌||◌, option_and_then, cons_option, list_any, enumerate_from, eq-eqb, eqb-true, ne_eqb, and_left, and_right, get_or-drop, length-drop, length-set, length-replicate, length-take-le, take_all, slice_get_read, slice_get_within, get_or_from_slice_get, Submitted, Sqe, Row, slice_get-set, WorldState, chain_fails, chain_of, error_at, error_of, rows_of, direct_of, direct_result, ecanceled, given, or_else, paired, endings_from, is_unfinished, list_any-append, length-enumerate_from}
+use Rattle.links_drains.proofs.{Batching.element_there, Batching.length-rows_of, Batching.take_more, Chains.Became, Chains.became, Chains.chain_before, Chains.enumerated, Listing.result_of, Listing.endings_step, Units.any_false}
 
 -- ---- Rows of a batch
 

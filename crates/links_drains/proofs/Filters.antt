@@ -1,7 +1,6 @@
 -- Filtering a list from its beginning.
 use Rattle.links_drains.proofs.Common.{◌≡◌, ℕ, zero, suc, Bool, true, false, cond, refl, ◌∙◌, ap, List, [], ◌∷◌, take, ◌<◌, ◌≤◌, arith, Some, option_map, slice_get, filter, enumerate_from, Row}
-use Rattle.links_drains.proofs.Chains.{enumerated}
-use Rattle.links_drains.proofs.RestOfUnit.{none_before, numbered}
+use Rattle.links_drains.proofs.{Chains.enumerated, RestOfUnit.none_before, RestOfUnit.numbered}
 
 -- ---- Lists
 

@@ -1,8 +1,6 @@
 -- The finder leads to every request that is sought.
 use Rattle.links_drains.proofs.Common.{◌≡◌, ◌≢◌, ℕ, Bool, true, false, cond, sym, ◌∙◌, ap, List, [], ◌∷◌, ◌++◌, length, take, set, get_or, max, ◌+◌, ◌-◌, ◌*◌, ◌/◌, ◌%◌, ◌<◌, ◌≤◌, ◌⊎◌, inl, inr, arith, Some, None, slice_get, slice_set, ◌==◌, ◌&&◌, and_left, both_ways, cases_Bool, cases_eq, cases_lt, eqb-true, ne_eqb, get_or-set_same, get_or-set_other, length-set, length-take, slice_get_within, Row, is_descriptor_number, slice_get-set, slice_get-take_below, slice_get-take_above, has, IsNext, NoneFrom, Findable, HasPlace, IsMarked, NoHolder, NoUser, hash_of, holds_now, mark_of, row_hash, is_number, IsNextWhere, NoneWhere, is_issued, fixed_of, IsNextIssued, NoneIssuedFrom, common_steps}
-use Rattle.links_drains.specs.declared.finder.Finder.{Finder}
-use Rattle.links_drains.proofs.Indexing.{pushed}
-use Rattle.links_drains.proofs.RowsKept.{length-push}
+use Rattle.links_drains.{specs.declared.finder.Finder.Finder, proofs.Indexing.pushed, proofs.RowsKept.length-push}
 
 -- ---- Room
 

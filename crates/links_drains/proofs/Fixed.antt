@@ -1,6 +1,5 @@
 -- The fields of a request that never change.
-use Rattle.links_drains.proofs.Common.{◌≡◌, ℕ, ap, List, map, length, ◌<◌, arith, Some, option_map, slice_get, slice_set, nat_lt, ◌==◌, ◌&&◌, slice_get_within, Sqe, Row, map_same, has_count, has_drain_flag, fixed_of}
-use Rattle.links_drains.specs.Links.{has_flag}
+use Rattle.links_drains.proofs.Common.{◌≡◌, ℕ, ap, List, map, length, ◌<◌, arith, Some, option_map, slice_get, slice_set, nat_lt, ◌==◌, ◌&&◌, slice_get_within, Sqe, Row, map_same, has_count, has_drain_flag, fixed_of, has_flag}
 
 -- Row i exists and may be replaced by the row.
 pub record Fixed (rows : List Row) (i : ℕ) (row : Row) : Type 0 where

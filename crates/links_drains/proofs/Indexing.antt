@@ -1,13 +1,7 @@
 -- The index remains correct when the table changes.
-use Rattle.links_drains.proofs.Common.{◌≡◌, ◌≢◌, ℕ, Bool, true, false, cond, refl, sym, ◌∙◌, ap, subst, List, [], ◌∷◌, ◌++◌, length, take, ◌+◌, ◌-◌, ◌<◌, ◌≤◌, ◌⊎◌, inl, inr, arith, Some, slice_get, slice_set, ◌==◌, ◌&&◌, option_map_or, cases_eq, cases_lt, ne_eqb, and_left, length-set, length-take, slice_get_within, slice_get_past, Row, slice_get-set, slice_get-set_same, slice_get-push, slice_get-take_below, slice_get-take_above, updated_set, has_count, threshold_in, threshold_of, has_drain_flag, Chained, ChainContinues, HasRoom, Indexed, IndexedBut, Cleared, Unreached, Forgotten, has, passes_at, is_issued_row, is_open, is_barrier, is_under_way, eq-eqb, list_any, common_steps}
-use Rattle.std.proofs.lemmas.List.Folds.{list_any-append}
-use Rattle.links_drains.specs.Eligible.{drains}
-use Rattle.bit_sets.specs.Thresholds.{never, threshold_at}
-use Rattle.links_drains.specs.declared.index.Index.{Index}
-use Rattle.links_drains.proofs.Chains.{chained-none, chained-take, chained-updated}
+use Rattle.links_drains.proofs.Common.{◌≡◌, ◌≢◌, ℕ, Bool, true, false, cond, refl, sym, ◌∙◌, ap, subst, List, [], ◌∷◌, ◌++◌, length, take, ◌+◌, ◌-◌, ◌<◌, ◌≤◌, ◌⊎◌, inl, inr, arith, Some, slice_get, slice_set, ◌==◌, ◌&&◌, option_map_or, cases_eq, cases_lt, ne_eqb, and_left, length-set, length-take, slice_get_within, slice_get_past, Row, slice_get-set, slice_get-set_same, slice_get-push, slice_get-take_below, slice_get-take_above, updated_set, has_count, threshold_in, threshold_of, has_drain_flag, Chained, ChainContinues, HasRoom, Indexed, IndexedBut, Cleared, Unreached, Forgotten, has, passes_at, is_issued_row, is_open, is_barrier, is_under_way, eq-eqb, list_any, common_steps, list_any-append, never, threshold_at, drains, Index}
+use Rattle.links_drains.proofs.{Chains.chained-none, Chains.chained-take, Chains.chained-updated, RowsKept.length-push, Units.any_set, Units.any_of_set, Units.any_of_push, Units.any_of_take, Units.any_of_none}
 use Rattle.bit_sets.proofs.Bits.{has_past}
-use Rattle.links_drains.proofs.RowsKept.{length-push}
-use Rattle.links_drains.proofs.Units.{any_set, any_of_set, any_of_push, any_of_take, any_of_none}
 
 -- ---- Chains
 

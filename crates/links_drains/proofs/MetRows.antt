@@ -1,6 +1,5 @@
 -- The first TIMEOUT whose count is reached, found by the thresholds.
-use Rattle.links_drains.proofs.Common.{◌≡◌, ℕ, false, ap, List, ◌<◌, arith, Option, Some, slice_get, option_map_or, Row, is_met, threshold_of, threshold_in, IsNextMet, NoneMetFrom}
-use Rattle.bit_sets.specs.Thresholds.{never, threshold_at, IsNextReached, NoneReachedFrom}
+use Rattle.links_drains.proofs.Common.{◌≡◌, ℕ, false, ap, List, ◌<◌, arith, Option, Some, slice_get, option_map_or, Row, is_met, threshold_of, threshold_in, IsNextMet, NoneMetFrom, never, threshold_at, IsNextReached, NoneReachedFrom}
 
 unmet_below : (total : ℕ) (row : Row) → total < threshold_of row → is_met total row ≡ false
 unmet_below = grind arith

@@ -1,12 +1,8 @@
 -- The first row, from a number on, that passes a test, found by sets of numbers.
-use Rattle.links_drains.proofs.Common.{◌≡◌, ℕ, Bool, true, false, refl, sym, ◌∙◌, ap, List, ◌<◌, ◌≤◌, ◌⊎◌, inl, inr, arith, not, option_map_or, filter, enumerate_from, and_from, and_left, cases_lt, slice_get-map, Row, Queued, Issued, Ended, next_where, IsNextWhere, NoneWhere, is_queued, is_issued, is_unfinished, has, IsNext, NoneFrom, passes_at, is_issued_row, is_open}
+use Rattle.links_drains.proofs.Common.{◌≡◌, ℕ, Bool, true, false, refl, sym, ◌∙◌, ap, List, ◌<◌, ◌≤◌, ◌⊎◌, inl, inr, arith, not, option_map_or, filter, enumerate_from, and_from, and_left, cases_lt, slice_get-map, Row, Queued, Issued, Ended, next_where, IsNextWhere, NoneWhere, is_queued, is_issued, is_unfinished, has, IsNext, NoneFrom, passes_at, is_issued_row, is_open, Phase, is_queued_row, IsNextQueued, NoneQueuedFrom, nat_tests}
 use Rattle.std.specs.Prelude.{Option, Some, None, map, option_map, slice_get, ◌&&◌, nat_le}
-use Rattle.std.proofs.lemmas.Bool.Decides.{nat_tests}
-use Rattle.entries.specs.declared.row.Phase.{Phase}
 use Rattle.bit_sets.specs.Difference.{in_difference, IsNextInDifference, NoneInDifference}
-use Rattle.links_drains.specs.Queued.{is_queued_row, IsNextQueued, NoneQueuedFrom}
-use Rattle.links_drains.proofs.Filters.{first_numbered, none_numbered}
-use Rattle.links_drains.proofs.Units.{passes_here}
+use Rattle.links_drains.proofs.{Filters.first_numbered, Filters.none_numbered, Units.passes_here}
 
 -- ---- By the set of the rows that pass
 

@@ -1,10 +1,7 @@
 -- The rest of a chain, computed row by row.
 use Rattle.links_drains.proofs.Common.{◌≡◌, ℕ, zero, suc, Bool, true, false, cond, refl, sym, ◌∙◌, ap, List, [], ◌∷◌, ◌++◌, take, length, ◌<◌, ◌≤◌, ◌+◌, inl, inr, arith, option_map_or, filter, enumerate_from, ltb-true, and_left, cases_Bool, ne_eqb, map-append, slice_get_within, slice_get_past, Row, Chained, is_open, is_rest, passes_at, rest_of}
-use Rattle.std.specs.Prelude.{Option, Some, None, map, option_map, slice_get, ◌==◌, ◌&&◌, nat_lt}
-use Rattle.std.proofs.lemmas.List.Elements.{filter-append}
-use Rattle.links_drains.proofs.Batching.{take_more}
-use Rattle.links_drains.proofs.Chains.{enumerated}
-use Rattle.links_drains.proofs.Units.{passes_here}
+use Rattle.std.{specs.Prelude.Option, specs.Prelude.Some, specs.Prelude.None, specs.Prelude.map, specs.Prelude.option_map, specs.Prelude.slice_get, specs.Prelude.◌==◌, specs.Prelude.◌&&◌, specs.Prelude.nat_lt, proofs.lemmas.List.Elements.filter-append}
+use Rattle.links_drains.proofs.{Batching.take_more, Chains.enumerated, Units.passes_here}
 
 -- ---- Filters of the beginning of a list
 

@@ -1,7 +1,5 @@
 -- The places of a changed table.
-use Rattle.links_drains.proofs.Common.{◌≡◌, ℕ, List, [], ◌∷◌, ◌++◌, take, length, ◌<◌, ◌+◌, arith, Some, None, slice_set, Row, Requested, put_at, slice_get-set, slice_get-push, slice_get-take, table_seen}
-use Rattle.places.specs.declared.place.Place.{Place}
-use Rattle.places.specs.declared.place.Place.TheVariants.{Request}
+use Rattle.links_drains.proofs.Common.{◌≡◌, ℕ, List, [], ◌∷◌, ◌++◌, take, length, ◌<◌, ◌+◌, arith, Some, None, slice_set, Row, Requested, put_at, slice_get-set, slice_get-push, slice_get-take, table_seen, Place, Request}
 use Rattle.places.specs.Places.{same_place}
 
 -- A row was replaced.

@@ -1,10 +1,8 @@
 -- The counts of held descriptors remain correct when the table changes.
-use Rattle.links_drains.proofs.Common.{◌≡◌, ℕ, zero, suc, Bool, true, false, cond, refl, sym, ◌∙◌, ap, List, [], ◌∷◌, ◌++◌, length, take, drop, get_or, ◌+◌, ◌-◌, ◌^◌, ◌<◌, ◌≤◌, arith, Some, slice_get, slice_set, nat_lt, ◌||◌, filter, list_any, take-append-drop, take_all, Row, holders, is_held, updated_set, holds, holders_of, is_held_by, Tallied, common_steps}
+use Rattle.links_drains.proofs.Common.{◌≡◌, ℕ, zero, suc, Bool, true, false, cond, refl, sym, ◌∙◌, ap, List, [], ◌∷◌, ◌++◌, length, take, drop, get_or, ◌+◌, ◌-◌, ◌^◌, ◌<◌, ◌≤◌, arith, Some, slice_get, slice_set, nat_lt, ◌||◌, filter, list_any, take-append-drop, take_all, Row, holders, is_held, updated_set, holds, holders_of, is_held_by, Tallied, common_steps, nat_tests}
 use Rattle.std.proofs.lemmas.List.Filters.{length-filter_more}
-use Rattle.std.proofs.lemmas.Bool.Decides.{nat_tests}
 use Rattle.model_files.specs.declared.held.Held.{Held}
-use Rattle.links_drains.proofs.Counting.{matching-more, matching-append, matching-updated, matching-le-length}
-use Rattle.links_drains.proofs.RowsKept.{length-dropped}
+use Rattle.links_drains.proofs.{Counting.matching-more, Counting.matching-append, Counting.matching-updated, Counting.matching-le-length, RowsKept.length-dropped}
 
 -- ---- How many requests hold a descriptor
 

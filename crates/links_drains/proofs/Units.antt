@@ -1,6 +1,5 @@
 -- Tests of the rows of a chain, by sets of row numbers and after changes of the table.
-use Rattle.links_drains.proofs.Common.{◌≡◌, ◌≢◌, ℕ, zero, suc, Bool, true, false, refl, sym, ◌∙◌, ap, List, [], ◌∷◌, ◌++◌, take, ◌≤◌, arith, Some, slice_get, slice_set, ◌==◌, ◌&&◌, ◌||◌, MatchBool, option_map_or, list_any, cases_Bool, eq-eqb, eqb-true, ne_eqb, and_from, and_parts, and_left, or_from, or_left, or_right, Row, Chained, has, IsNext, passes_at, HasRowOf, HasNoRowOf}
-use Rattle.std.proofs.lemmas.List.Folds.{list_any-append}
+use Rattle.links_drains.proofs.Common.{◌≡◌, ◌≢◌, ℕ, zero, suc, Bool, true, false, refl, sym, ◌∙◌, ap, List, [], ◌∷◌, ◌++◌, take, ◌≤◌, arith, Some, slice_get, slice_set, ◌==◌, ◌&&◌, ◌||◌, MatchBool, option_map_or, list_any, cases_Bool, eq-eqb, eqb-true, ne_eqb, and_from, and_parts, and_left, or_from, or_left, or_right, Row, Chained, has, IsNext, passes_at, HasRowOf, HasNoRowOf, list_any-append}
 
 -- ---- Some item passes a test
 

@@ -1,10 +1,7 @@
 -- How a batch of submitted entries becomes requests (io_uring_enter(2)).
 use Rattle.std.specs.Prelude.{◌≡◌, ℕ, zero, suc, ℤ, ◌+◌, ◌-◌, ◌==◌, Bool, false, not, ◌&&◌, if◌then◌else◌, Option, Some, None, is_none, is_some, slice_get, List, drop, take}
-use Rattle.std.specs.Option.{option_and_then, option_map_or}
+use Rattle.links_drains.specs.Common.{Row, prefix_len, list_any, option_and_then, option_map_or, Sqe}
 use Rattle.std.specs.Result.{result_err}
-use Rattle.std.specs.List.{prefix_len, list_any}
-use Rattle.entries.specs.declared.entry.Sqe.{Sqe}
-use Rattle.entries.specs.declared.row.Row.{Row}
 use Rattle.model_files.specs.Worlds.{WorldState}
 use Rattle.opcodes.specs.Check.{check_of, time_of}
 use Rattle.links_drains.specs.Endings.{Ending, ecanceled, given, or_else, endings_from}

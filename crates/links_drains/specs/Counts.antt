@@ -1,8 +1,6 @@
 -- TIMEOUTs that complete after a number of completions (io_uring_enter(2), IORING_OP_TIMEOUT).
 use Rattle.std.specs.Prelude.{◌≡◌, ℕ, ◌+◌, ◌==◌, ◌≤◌, ◌<◌, min, Bool, true, false, ◌&&◌, nat_lt, nat_le, if◌then◌else◌, Some, List, slice_get}
-use Rattle.std.specs.Option.{option_map_or}
-use Rattle.entries.specs.declared.row.Row.{Row}
-use Rattle.bit_sets.specs.Thresholds.{never}
+use Rattle.links_drains.specs.Common.{Row, option_map_or, never}
 use Rattle.links_drains.specs.Phases.{is_issued}
 
 -- A TIMEOUT with a number of completions to wait for, in its `off` field.

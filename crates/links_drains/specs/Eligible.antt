@@ -1,9 +1,7 @@
 -- Which requests may be issued, defined over all requests ever submitted (io_uring_enter(2),
 -- IOSQE_IO_LINK and IOSQE_IO_DRAIN).
 use Rattle.std.specs.Prelude.{◌≡◌, ℕ, ◌<◌, ◌==◌, Bool, true, false, not, ◌&&◌, ◌||◌, nat_lt, Some, List, slice_get}
-use Rattle.std.specs.Option.{option_map_or}
-use Rattle.std.specs.List.{list_any}
-use Rattle.entries.specs.declared.row.Row.{Row}
+use Rattle.links_drains.specs.Common.{Row, list_any, option_map_or}
 use Rattle.links_drains.specs.Links.{has_drain_flag, is_guard}
 use Rattle.links_drains.specs.Numbered.{any_numbered}
 use Rattle.links_drains.specs.Phases.{is_queued, is_unfinished}

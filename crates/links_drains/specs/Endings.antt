@@ -1,9 +1,6 @@
 -- Lists of requests that complete, with their results.
 use Rattle.std.specs.Prelude.{◌≡◌, ℕ, ℤ, negsuc, ◌<◌, ◌==◌, Bool, true, if◌then◌else◌, Option, Some, None, slice_get, List, [], ◌∷◌}
-use Rattle.std.specs.List.{filter_map, list_any, enumerate_from}
-use Rattle.std.specs.Option.{option_map_or}
-use Rattle.entries.specs.declared.row.Row.{Row}
-use Rattle.entries.specs.declared.row.Phase.TheVariants.{Ended}
+use Rattle.links_drains.specs.Common.{Row, filter_map, list_any, enumerate_from, option_map_or, Ended}
 use Rattle.links_drains.specs.Phases.{is_unfinished}
 
 -- A request's number and its result.

@@ -1,8 +1,7 @@
 -- Finding requests by their user_data and by their descriptor. The finder leads to every request
 -- that has them, and perhaps to others. Public contracts use `holds_now` and `NoUser` alone.
 use Rattle.std.specs.Prelude.{◌≡◌, ℕ, ◌+◌, ◌-◌, ◌*◌, ◌/◌, ◌%◌, ◌≤◌, ◌<◌, ◌==◌, ◌&&◌, Bool, true, false, Some, get_or, List, length, slice_get}
-use Rattle.entries.specs.declared.row.Row.{Row}
-use Rattle.bit_sets.specs.Sets.{has}
+use Rattle.links_drains.specs.Common.{Row, has}
 use Rattle.links_drains.specs.Holding.{holds, is_number}
 use Rattle.links_drains.specs.Phases.{is_issued}
 use Rattle.links_drains.specs.declared.finder.Finder.{Finder}

@@ -1,8 +1,6 @@
 -- Which descriptors are held by requests (io_uring_enter(2)).
 use Rattle.std.specs.Prelude.{◌≡◌, ℕ, ◌≤◌, ◌==◌, ◌&&◌, Bool, false, Option, Some, None, List, length}
-use Rattle.std.specs.List.{filter, list_any}
-use Rattle.entries.specs.declared.row.Row.{Row}
-use Rattle.model_files.specs.declared.held.Held.{Held}
+use Rattle.links_drains.specs.Common.{Row, filter, list_any, Held}
 use Rattle.model_files.specs.Holders.{holders, is_descriptor_number}
 use Rattle.links_drains.specs.Phases.{is_issued}
 

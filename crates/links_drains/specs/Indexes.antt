@@ -1,11 +1,9 @@
 -- The invariant of the index of a request table. Public contracts don't use it.
 use Rattle.std.specs.Prelude.{◌≡◌, ◌≢◌, ℕ, ◌*◌, ◌≤◌, ◌<◌, true, false, Some, List, length, slice_get}
-use Rattle.entries.specs.declared.row.Row.{Row}
+use Rattle.links_drains.specs.Common.{Row, has, never, threshold_at}
 use Rattle.links_drains.specs.Counts.{has_count, threshold_in}
 use Rattle.links_drains.specs.Eligible.{drains}
 use Rattle.links_drains.specs.Links.{has_drain_flag, Chained}
-use Rattle.bit_sets.specs.Sets.{has}
-use Rattle.bit_sets.specs.Thresholds.{never, threshold_at}
 use Rattle.links_drains.specs.Units.{passes_at, is_issued_row, is_open, is_barrier}
 use Rattle.links_drains.specs.declared.index.Index.{Index}
 

@@ -2,8 +2,7 @@
 -- IOSQE_IO_DRAIN).
 use Rattle.std.specs.Prelude.{◌≡◌, ℕ, ◌+◌, ◌≤◌, ◌==◌, Bool, not, ◌&&◌, ◌||◌, ◌⊎◌, Some, List, length, slice_get}
 use Rattle.std.specs.Int.Bits.{bit_and}
-use Rattle.entries.specs.declared.entry.Sqe.{Sqe}
-use Rattle.entries.specs.declared.row.Row.{Row}
+use Rattle.links_drains.specs.Common.{Row, Sqe}
 
 -- Whether the flags have a bit, which is given by its value.
 abbrev pub has_flag : ℕ → ℕ → Bool

@@ -1,7 +1,6 @@
 -- Lists whose items are numbered from 0.
 use Rattle.std.specs.Prelude.{◌≡◌, ℕ, ◌≤◌, ◌<◌, Bool, true, false, ◌&&◌, nat_le, Option, Some, List, map, slice_get}
-use Rattle.std.specs.List.{filter, list_any, enumerate_from}
-use Rattle.entries.specs.declared.row.Row.{Row}
+use Rattle.links_drains.specs.Common.{Row, filter, list_any, enumerate_from}
 
 -- The items that pass a test of the number and the item, in order, each with its number.
 abbrev pub numbered_where : {X : Type 0} → (ℕ → X → Bool) → List X → List (ℕ × X)

@@ -1,9 +1,7 @@
 -- The phases of requests (queued, issued or completed), and counts of completed requests.
 use Rattle.std.specs.Prelude.{ℕ, Bool, true, false, not, ◌&&◌, List, length}
-use Rattle.std.specs.List.{filter}
+use Rattle.links_drains.specs.Common.{Row, filter, Queued, Issued, Ended}
 use Rattle.entries.specs.declared.row.Phase.{Phase}
-use Rattle.entries.specs.declared.row.Phase.TheVariants.{Queued, Issued, Ended}
-use Rattle.entries.specs.declared.row.Row.{Row}
 use Rattle.opcodes.specs.Opcodes.{is_timer}
 
 abbrev pub is_queued : Phase → Bool

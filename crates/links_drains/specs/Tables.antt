@@ -1,7 +1,6 @@
 -- The invariant of a request table: its counts, its index and its finder match its rows.
 use Rattle.std.specs.Prelude.{List}
-use Rattle.entries.specs.declared.row.Row.{Row}
-use Rattle.model_files.specs.declared.held.Held.{Held}
+use Rattle.links_drains.specs.Common.{Row, Held}
 use Rattle.links_drains.specs.Finders.{Findable}
 use Rattle.links_drains.specs.Holding.{Tallied}
 use Rattle.links_drains.specs.Indexes.{Indexed}

@@ -1,12 +1,9 @@
 -- The requests of a chain, and the chains that later requests wait for.
 use Rattle.std.specs.Prelude.{◌≡◌, ℕ, ◌==◌, Bool, true, false, ◌&&◌, nat_lt, Option, Some, List, slice_get}
-use Rattle.std.specs.Option.{option_map_or}
-use Rattle.std.specs.List.{list_any}
-use Rattle.entries.specs.declared.row.Row.{Row}
+use Rattle.links_drains.specs.Common.{Row, list_any, option_map_or, has}
 use Rattle.links_drains.specs.Eligible.{drains}
 use Rattle.links_drains.specs.Numbered.{numbers_where, next_where, IsNextWhere, NoneWhere}
 use Rattle.links_drains.specs.Phases.{is_issued, is_unfinished}
-use Rattle.bit_sets.specs.Sets.{has}
 
 -- Whether there is a row r, and it passes a test.
 abbrev pub passes_at : (Row → Bool) → List Row → ℕ → Bool

@@ -1,11 +1,7 @@
 -- A cancellation completes unfinished requests, by ascending number.
 use Rattle.std.proofs.Common.{◌≡◌, ℕ, pos, zero, suc, Bool, true, false, not, cond, refl, sym, ◌∙◌, ap, subst, List, [], ◌∷◌, ◌++◌, length, map, ◌+◌, ◌<◌, ◌≤◌, le_refl, arith}
-use Rattle.machine.proofs.Common.{Option, Some, None, slice_get, ◌==◌, ◌&&◌, nat_lt, if◌then◌else◌, filter, enumerate_from, slice_get_within, Sqe, Row, Phase, WorldState, is_running, Ending, ecanceled, Direct, is_guard, is_ended, is_issued, is_unfinished, enumerated, Verdict, key_of, takes_all, on_found, on_all, verdict_of, canceled, ending_with}
-use Rattle.timeouts_cancel.specs.declared.matching.Key.{Key}
-use Rattle.timeouts_cancel.specs.declared.matching.Found.TheVariants.{Running, Waiting}
-use Rattle.timeouts_cancel.specs.declared.matching.Found.{Found}
-use Rattle.timeouts_cancel.specs.Matches.{fits_key, is_match, matches_of, found_by, found_first, is_waiting_match, waiting_by}
-use Rattle.timeouts_cancel.proofs.Severing.{both}
+use Rattle.machine.proofs.Common.{Option, Some, None, slice_get, ◌==◌, ◌&&◌, nat_lt, if◌then◌else◌, filter, enumerate_from, slice_get_within, Sqe, Row, Phase, WorldState, is_running, Ending, ecanceled, Direct, is_guard, is_ended, is_issued, is_unfinished, enumerated, Verdict, key_of, takes_all, on_found, on_all, verdict_of, canceled, ending_with, fits_key, is_match, matches_of, found_by, found_first, is_waiting_match, waiting_by}
+use Rattle.timeouts_cancel.{specs.declared.matching.Key.Key, specs.declared.matching.Found.TheVariants.Running, specs.declared.matching.Found.TheVariants.Waiting, specs.declared.matching.Found.Found, proofs.Severing.both}
 
 -- ---- Sorted completions
 

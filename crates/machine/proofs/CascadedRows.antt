@@ -1,10 +1,7 @@
 -- The requests of a cascade, and the machine after it.
-use Rattle.machine.proofs.Common.{◌≡◌, ℕ, ℤ, zero, suc, Bool, true, false, cond, refl, sym, ◌∙◌, ap, subst, List, [], ◌∷◌, length, ◌+◌, ◌*◌, ◌<◌, ◌≤◌, ◌⊎◌, inl, inr, arith, eq-eqb, Option, Some, None, option_map, slice_get, not, option_map_or, Row, Ended, PutsWithin, puts_more, ended_by, result_in, Direct, is_guard, map_numbered, is_ended, is_unfinished, ended_of, counted_in, fall_of, counted_cascade, unlisted, cascade_unfinished, cascade_rising, target_stays, AllGuardsLinked, GuardIsLinked, Mostly, NoneMet, RowFormed, WellFormed, Machine, mapped_at}
+use Rattle.machine.proofs.Common.{◌≡◌, ℕ, ℤ, zero, suc, Bool, true, false, cond, refl, sym, ◌∙◌, ap, subst, List, [], ◌∷◌, length, ◌+◌, ◌*◌, ◌<◌, ◌≤◌, ◌⊎◌, inl, inr, arith, eq-eqb, Option, Some, None, option_map, slice_get, not, option_map_or, Row, Ended, PutsWithin, puts_more, ended_by, result_in, Direct, is_guard, map_numbered, is_ended, is_unfinished, ended_of, counted_in, fall_of, counted_cascade, unlisted, cascade_unfinished, cascade_rising, target_stays, AllGuardsLinked, GuardIsLinked, Mostly, NoneMet, RowFormed, WellFormed, Machine, mapped_at, all_ended, cascaded}
 use Rattle.links_drains.specs.Counts.{is_met}
-use Rattle.machine.specs.Steps.{all_ended, cascaded}
-use Rattle.machine.proofs.EndedRows.{CanEnd, can_end, ended_or_same, ended_together, unlisted_same}
-use Rattle.machine.proofs.FormedMachines.{mostly, mostly_ended, formed_of}
-use Rattle.machine.proofs.FormedRows.{ended_row}
+use Rattle.machine.proofs.{EndedRows.CanEnd, EndedRows.can_end, EndedRows.ended_or_same, EndedRows.ended_together, EndedRows.unlisted_same, FormedMachines.mostly, FormedMachines.mostly_ended, FormedMachines.formed_of, FormedRows.ended_row}
 
 pub direct_cascade : (rows : List Row) (c : ℕ) (direct : List (ℕ × ℤ)) → Direct rows (fall_of rows c direct)
 direct_cascade rows c direct = record { each = cascade_unfinished rows c direct; rising = cascade_rising rows c direct }

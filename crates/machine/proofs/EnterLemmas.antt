@@ -1,8 +1,6 @@
 -- Lemmas about Enter, and about events that need a request.
-use Rattle.machine.proofs.Common.{◌≡◌, ℕ, Bool, true, false, sym, ◌∙◌, ap, List, length, ◌+◌, ◌<◌, ◌≤◌, arith, Option, Some, None, Result, Ok, Err, slice_get, slice_set, if◌then◌else◌, option_map_or, Row, Queued, Issued, ended-le-length, is_clear, einval, ebusy, flushed, before_submission, is_busy, submission_refusal, alone_refusal, issue_refusal, issued, held_by, lacks_descriptor, answered, entered, entered_without_poller, base_of, deadline_of, expire_refusal, is_guard_of, started, updated, updated_set, Ready, ThreadState, AllGuardsLinked, WellFormed, Machine}
+use Rattle.machine.proofs.Common.{◌≡◌, ℕ, Bool, true, false, sym, ◌∙◌, ap, List, length, ◌+◌, ◌<◌, ◌≤◌, arith, Option, Some, None, Result, Ok, Err, slice_get, slice_set, if◌then◌else◌, option_map_or, Row, Queued, Issued, ended-le-length, is_clear, einval, ebusy, flushed, before_submission, is_busy, submission_refusal, alone_refusal, issue_refusal, issued, held_by, lacks_descriptor, answered, entered, entered_without_poller, base_of, deadline_of, expire_refusal, is_guard_of, started, updated, updated_set, Ready, ThreadState, AllGuardsLinked, WellFormed, Machine, sub_list, is_eligible}
 use Rattle.std.specs.Result.{OnOk}
-use Rattle.links_drains.specs.Eligible.{is_eligible}
-use Rattle.ring_words.specs.Rings.{sub_list}
 use Rattle.machine.proofs.IssuingRows.{started_at_once}
 
 -- After a flush, no overflowed completion prevents the submission.

@@ -1,18 +1,10 @@
 -- Accepted events preserve well-formedness.
-use Rattle.machine.proofs.Common.{◌≡◌, ℕ, ℤ, pos, negsuc, Bool, true, false, cond, refl, ◌∙◌, ap, List, [], ◌∷◌, length, ◌+◌, ◌*◌, ◌%◌, ◌<◌, ◌≤◌, ◌^◌, inl, arith, FitsSigned, Option, Some, None, min, slice_get, slice_set, nat_lt, ◌==◌, ◌&&◌, if◌then◌else◌, Cqe, Row, Phase, is_held_by, Choice, Outcome, Res, Waits, BadChoice, outcome_of, world_after, stays_after, WorldState, PutsWithin, descriptor_of, world_closed, world_stored, Stage, Ready, Waiting, waiting, Poller, direct_of, is_ended, verdict_of, ending_with, offered, einval, ebusy, ebadf, ThreadState, WellFormed, Instruction, Put, Push, Store, Enter, Reap, Close, Machine, Event, Step, Take, Sleep, Issue, Finish, Expire, Tick, ended_of, fall_of, puts_after, puts_more, common_steps}
+use Rattle.machine.proofs.Common.{◌≡◌, ℕ, ℤ, pos, negsuc, Bool, true, false, cond, refl, ◌∙◌, ap, List, [], ◌∷◌, length, ◌+◌, ◌*◌, ◌%◌, ◌<◌, ◌≤◌, ◌^◌, inl, arith, FitsSigned, Option, Some, None, min, slice_get, slice_set, nat_lt, ◌==◌, ◌&&◌, if◌then◌else◌, Cqe, Row, Phase, is_held_by, Choice, Outcome, Res, Waits, BadChoice, outcome_of, world_after, stays_after, WorldState, PutsWithin, descriptor_of, world_closed, world_stored, Stage, Ready, Waiting, waiting, Poller, direct_of, is_ended, verdict_of, ending_with, offered, einval, ebusy, ebadf, ThreadState, WellFormed, Instruction, Put, Push, Store, Enter, Reap, Close, Machine, Event, Step, Take, Sleep, Issue, Finish, Expire, Tick, ended_of, fall_of, puts_after, puts_more, common_steps, refusal, after, resumed, stepped, executed, entered, entered_without_poller, entered_with_poller, submitting, before_submission, is_busy, is_unknown, gets_events, wakes, woken, shown, awaited, ready_count, held_back, with_poller, submission_refusal, alone_refusal, enter_refusal, instruction_refusal, next_refusal, closed, is_open, thread_refusal, phase_refusal, choice_refusal, finish_refusal, taken, submitted, answered, advanced, cancelled, finished, finished_as, lacks_descriptor, cascaded, all_started, entries_for, expired, expiring, waiting_target, world_stored_formed, world_closed_formed}
 use Rattle.std.specs.Int.{w64}
 use Rattle.model_files.proofs.Fixing as worlds
-use Rattle.model_files.proofs.Forming.{world_stored_formed, world_closed_formed}
 use Rattle.sqpoll.specs.declared.poller.Poller.TheVariants.{Awake, Asleep}
-use Rattle.machine.specs.Steps.{refusal, after, resumed, stepped, executed, entered, entered_without_poller, entered_with_poller, submitting, before_submission, is_busy, is_unknown, gets_events, wakes, woken, shown, awaited, ready_count, held_back, with_poller, submission_refusal, alone_refusal, enter_refusal, instruction_refusal, next_refusal, closed, is_open, thread_refusal, phase_refusal, choice_refusal, finish_refusal, taken, submitted, answered, advanced, cancelled, finished, finished_as, lacks_descriptor, cascaded, all_started, entries_for, expired, expiring, waiting_target}
 use Rattle.scenario.specs.declared.event.Refusal.TheVariants.{SqFull, NothingToReap, WrongPhase}
-use Rattle.machine.proofs.FormedThreads.{well_formed_on, well_formed_held, formed_thread}
-use Rattle.machine.proofs.FormedMachines.{formed_issued, formed_world, mostly, mostly_world, rows_moved, formed_flushed, formed_put, formed_push, formed_taken_out}
-use Rattle.machine.proofs.FormedSubmissions.{formed_submitted, length-taken_entries}
-use Rattle.machine.proofs.CascadedRows.{cascades_some, formed_cascaded, formed_cascaded_but, threads_cascaded}
-use Rattle.machine.proofs.EnterLemmas.{CanStart, can_start}
-use Rattle.machine.proofs.GuardLemmas.{eligible_no_guard}
-use Rattle.machine.proofs.PipeCounts.{puts_fit}
+use Rattle.machine.proofs.{FormedThreads.well_formed_on, FormedThreads.well_formed_held, FormedThreads.formed_thread, FormedMachines.formed_issued, FormedMachines.formed_world, FormedMachines.mostly, FormedMachines.mostly_world, FormedMachines.rows_moved, FormedMachines.formed_flushed, FormedMachines.formed_put, FormedMachines.formed_push, FormedMachines.formed_taken_out, FormedSubmissions.formed_submitted, FormedSubmissions.length-taken_entries, CascadedRows.cascades_some, CascadedRows.formed_cascaded, CascadedRows.formed_cascaded_but, CascadedRows.threads_cascaded, EnterLemmas.CanStart, EnterLemmas.can_start, GuardLemmas.eligible_no_guard, PipeCounts.puts_fit}
 
 -- ---- Each event
 

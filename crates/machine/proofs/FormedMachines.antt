@@ -1,15 +1,10 @@
 -- Invariants that each change of the machine preserves.
-use Rattle.machine.proofs.Common.{◌≡◌, ℕ, Bool, true, false, refl, sym, ◌∙◌, ap, subst, [], ◌∷◌, ◌++◌, length, ◌+◌, ◌*◌, ◌%◌, ◌<◌, ◌≤◌, ◌^◌, length-append, length-set, arith, length-drop, option_map_or, eqb-true, WorldState, WorldFormed, descriptor_at, OneSetup as OneWorldSetup, uses_descriptor, Cqe, Sqe, Row, Phase, Queued, updated, length-updated, waiting, with_flag, formed_pushed, formed_entry, formed_flag, waiting_more, Direct, Ending, is_guard, is_ended, is_queued, counted-le-length, counted-unfinished, ended-unfinished, ended_of, PutsWithin, counted_in, all_ended, all_started, completion_of, completions_of, delivery, flushed, is_guard_of, is_usable, lacks_descriptor, started, AllGuardsLinked, Mostly, NoneMet, is_asleep, flag_word, RowFormed, WellFormed, ThreadWellFormed, Machine, chained-updated, mapped_at}
-use Rattle.std.proofs.lemmas.List.Elements.{filter_map-append}
+use Rattle.machine.proofs.Common.{◌≡◌, ℕ, Bool, true, false, refl, sym, ◌∙◌, ap, subst, [], ◌∷◌, ◌++◌, length, ◌+◌, ◌*◌, ◌%◌, ◌<◌, ◌≤◌, ◌^◌, length-append, length-set, arith, length-drop, option_map_or, eqb-true, WorldState, WorldFormed, descriptor_at, OneSetup as OneWorldSetup, uses_descriptor, Cqe, Sqe, Row, Phase, Queued, updated, length-updated, waiting, with_flag, formed_pushed, formed_entry, formed_flag, waiting_more, Direct, Ending, is_guard, is_ended, is_queued, counted-le-length, counted-unfinished, ended-unfinished, ended_of, PutsWithin, counted_in, all_ended, all_started, completion_of, completions_of, delivery, flushed, is_guard_of, is_usable, lacks_descriptor, started, AllGuardsLinked, Mostly, NoneMet, is_asleep, flag_word, RowFormed, WellFormed, ThreadWellFormed, Machine, chained-updated, mapped_at, filter_map-append}
 use Rattle.std.specs.Prelude.{List, Option, Some, None, slice_get, slice_set, not, ◌&&◌, if◌then◌else◌}
 use Rattle.ring_words.specs.declared.flag.RingFlag.TheVariants.{CqOverflow}
-use Rattle.overflow.specs.Backlogs.{BacklogState, is_clear, Delivery, DeliveryFormed, all_posted, flushed as flushed_delivery}
-use Rattle.overflow.proofs.KeptInOrder.{posted_formed, flushed_formed}
+use Rattle.overflow.{specs.Backlogs.BacklogState, specs.Backlogs.is_clear, specs.Backlogs.Delivery, specs.Backlogs.DeliveryFormed, specs.Backlogs.all_posted, specs.Backlogs.flushed as flushed_delivery, proofs.KeptInOrder.posted_formed, proofs.KeptInOrder.flushed_formed}
 use Rattle.timeouts_cancel.proofs.Tallying.{few_counted}
-use Rattle.machine.proofs.EndedRows.{CanEnd, can_end, can_end_most, ended_together}
-use Rattle.machine.proofs.FormedRows.{FormedRows, formed_rows-updated, formed_rows-moved}
-use Rattle.machine.proofs.GuardLemmas.{apart, guard_is_guard_of, started_guards, started_in_turn}
-use Rattle.machine.proofs.IssuingRows.{started_at_once}
+use Rattle.machine.proofs.{EndedRows.CanEnd, EndedRows.can_end, EndedRows.can_end_most, EndedRows.ended_together, FormedRows.FormedRows, FormedRows.formed_rows-updated, FormedRows.formed_rows-moved, GuardLemmas.apart, GuardLemmas.guard_is_guard_of, GuardLemmas.started_guards, GuardLemmas.started_in_turn, IssuingRows.started_at_once}
 
 pub mostly : (m : Machine) → WellFormed m → Mostly m
 mostly m h = h.mostly

@@ -1,8 +1,5 @@
 -- The requests that a submission adds, and the invariant of each request.
-use Rattle.std.proofs.Common.{◌≡◌, ℕ, suc, Bool, true, false, cond, refl, sym, ◌∙◌, ap, subst, List, [], ◌∷◌, length, ◌≤◌, ◌⊎◌, arith}
-use Rattle.machine.proofs.Common.{Option, Some, None, IsSome, is_some, slice_get, ◌&&◌, option_and_then, result_err, filter, eqb-true, Sqe, Row, Phase, Queued, WorldState, OneSetup as OneWorldSetup, is_timer, updated, is_ended, is_issued, is_unfinished, counts, counted_of, previous_in, error_at, error_of, rows_of, matching-more, became, deadline_of, entries_at, IsTime, RowFormed, common_steps}
-use Rattle.model_files.proofs.Restoring.{descriptor_alike}
-use Rattle.opcodes.specs.Check.{check_of, op_of, time_of}
+use Rattle.machine.proofs.Common.{Option, Some, None, IsSome, is_some, slice_get, ◌&&◌, option_and_then, result_err, filter, eqb-true, Sqe, Row, Phase, Queued, WorldState, OneSetup as OneWorldSetup, is_timer, updated, is_ended, is_issued, is_unfinished, counts, counted_of, previous_in, error_at, error_of, rows_of, matching-more, became, deadline_of, entries_at, IsTime, RowFormed, common_steps, ◌≡◌, ℕ, suc, Bool, true, false, cond, refl, sym, ◌∙◌, ap, subst, List, [], ◌∷◌, length, ◌≤◌, ◌⊎◌, arith, descriptor_alike, check_of, op_of, time_of}
 use Rattle.machine.proofs.ListsChanged.{updated_get}
 
 -- ---- Valid entries

@@ -1,13 +1,7 @@
 -- Invariants that a submission preserves.
-use Rattle.machine.proofs.Common.{◌≡◌, ℕ, ℤ, Bool, true, refl, sym, ◌∙◌, ap, subst, List, ◌++◌, length, ◌+◌, ◌*◌, ◌%◌, ◌<◌, ◌≤◌, ◌^◌, ◌⊎◌, inl, inr, length-append, length-take, arith, Option, Some, None, slice_get, Sqe, common_steps, gets, Row, formed_taken, sub_length, waiting_after, rows_of, direct_of, taken_of, result_in, Direct, PutsWithin, WorldState, puts_more, fall_of, is_guard, is_unfinished, ended_of, chained-batch, get-appended, counted-append, ended-append, GuardsAreLinked, offered, taken_words, taken_entries, entries_for, taken, submitted, GuardIsLinked, Mostly, RowFormed, WellFormed, Machine}
-use Rattle.ring_words.specs.Rings.{SubWords, SubFormed, waiting, sub_list}
-use Rattle.links_drains.proofs.Batching.{length-rows_of}
-use Rattle.links_drains.proofs.DirectPairs.{direct-batch, unlisted_passes}
-use Rattle.machine.proofs.FormedMachines.{mostly}
-use Rattle.machine.proofs.CascadedRows.{formed_cascaded_but}
-use Rattle.machine.proofs.GuardLemmas.{batch_target_is, batch_guard, guard_before, guards_linked}
-use Rattle.machine.proofs.TakingWords.{length-up_to_entry}
-use Rattle.machine.proofs.FormedRows.{length-entries_at, counted-rows_of, batch_row}
+use Rattle.machine.proofs.Common.{◌≡◌, ℕ, ℤ, Bool, true, refl, sym, ◌∙◌, ap, subst, List, ◌++◌, length, ◌+◌, ◌*◌, ◌%◌, ◌<◌, ◌≤◌, ◌^◌, ◌⊎◌, inl, inr, length-append, length-take, arith, Option, Some, None, slice_get, Sqe, common_steps, gets, Row, formed_taken, sub_length, waiting_after, rows_of, direct_of, taken_of, result_in, Direct, PutsWithin, WorldState, puts_more, fall_of, is_guard, is_unfinished, ended_of, chained-batch, get-appended, counted-append, ended-append, GuardsAreLinked, offered, taken_words, taken_entries, entries_for, taken, submitted, GuardIsLinked, Mostly, RowFormed, WellFormed, Machine, SubWords, SubFormed, waiting, sub_list}
+use Rattle.links_drains.proofs.{Batching.length-rows_of, DirectPairs.direct-batch, DirectPairs.unlisted_passes}
+use Rattle.machine.proofs.{FormedMachines.mostly, CascadedRows.formed_cascaded_but, GuardLemmas.batch_target_is, GuardLemmas.batch_guard, GuardLemmas.guard_before, GuardLemmas.guards_linked, TakingWords.length-up_to_entry, FormedRows.length-entries_at, FormedRows.counted-rows_of, FormedRows.batch_row}
 
 -- ---- How many entries
 

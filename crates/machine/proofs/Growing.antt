@@ -1,13 +1,9 @@
 -- Accepted events preserve the setup, and remove no request and no item of the backlog.
-use Rattle.machine.proofs.Common.{◌≡◌, ℕ, ℤ, pos, negsuc, Bool, true, false, refl, ap, List, [], ◌∷◌, ◌++◌, length, map, ◌+◌, ◌≤◌, arith, length-set, length-append, le_refl, Option, Some, None, is_some, slice_get, nat_lt, ◌==◌, ◌||◌, if◌then◌else◌, Cqe, Row, updated, Stage, Ready, Waiting, WorldState, descriptor_of, world_closed, OneSetup as OneWorldSetup, is_held_by, fixed_of, Choice, Outcome, Res, Waits, BadChoice, is_cancel, outcome_of, world_after, stays_after, rows_of, direct_of, Poller, verdict_of, ending_with, einval, ebusy, ebadf, fall_of, ThreadState, program_of, Grows, WellFormed, Instruction, Put, Push, Store, Enter, Reap, Close, Machine, Event, Step, Take, Sleep, Issue, Finish, Expire, Tick, stay_append, common_steps}
-use Rattle.machine.proofs.PipeCounts.{puts_fit}
+use Rattle.machine.proofs.Common.{◌≡◌, ℕ, ℤ, pos, negsuc, Bool, true, false, refl, ap, List, [], ◌∷◌, ◌++◌, length, map, ◌+◌, ◌≤◌, arith, length-set, length-append, le_refl, Option, Some, None, is_some, slice_get, nat_lt, ◌==◌, ◌||◌, if◌then◌else◌, Cqe, Row, updated, Stage, Ready, Waiting, WorldState, descriptor_of, world_closed, OneSetup as OneWorldSetup, is_held_by, fixed_of, Choice, Outcome, Res, Waits, BadChoice, is_cancel, outcome_of, world_after, stays_after, rows_of, direct_of, Poller, verdict_of, ending_with, einval, ebusy, ebadf, fall_of, ThreadState, program_of, Grows, WellFormed, Instruction, Put, Push, Store, Enter, Reap, Close, Machine, Event, Step, Take, Sleep, Issue, Finish, Expire, Tick, stay_append, common_steps, refusal, after, resumed, stepped, executed, entered, entered_without_poller, entered_with_poller, submitting, before_submission, is_busy, is_unknown, gets_events, woken, shown, awaited, with_poller, closed, is_open, posted, flushed, all_ended, cascaded, taken, submitted, answered, issued, cancelled, finished, finished_as, lacks_descriptor, all_started, entries_for, expired, expiring, is_guard_of, started, started_with, waiting_target}
+use Rattle.machine.proofs.{PipeCounts.puts_fit, ListsChanged.map_updated, MappedRows.mapped_length, MappedRows.mapped_stay, Restored.setup_self}
 use Rattle.overflow.proofs.Posting.{posted_slots}
 use Rattle.sqpoll.specs.declared.poller.Poller.TheVariants.{Asleep}
 use Rattle.model_files.proofs.Fixing as worlds
-use Rattle.machine.specs.Steps.{refusal, after, resumed, stepped, executed, entered, entered_without_poller, entered_with_poller, submitting, before_submission, is_busy, is_unknown, gets_events, woken, shown, awaited, with_poller, closed, is_open, posted, flushed, all_ended, cascaded, taken, submitted, answered, issued, cancelled, finished, finished_as, lacks_descriptor, all_started, entries_for, expired, expiring, is_guard_of, started, started_with, waiting_target}
-use Rattle.machine.proofs.ListsChanged.{map_updated}
-use Rattle.machine.proofs.MappedRows.{mapped_length, mapped_stay}
-use Rattle.machine.proofs.Restored.{setup_self}
 
 pub grows_self : (m : Machine) → Grows m m
 grows_self m = record { setup = setup_self m; rows = le_refl _; stay = λ r l. refl; backlog = le_refl _ }

@@ -1,7 +1,5 @@
 -- Linked timeouts come directly after their targets.
-use Rattle.machine.proofs.Common.{◌≡◌, ℕ, ℤ, zero, suc, Bool, true, false, cond, refl, sym, ◌∙◌, ap, subst, List, [], ◌∷◌, ◌++◌, length, ◌+◌, ◌-◌, inl, inr, arith, Option, Some, None, option_map, is_none, slice_get, ◌==◌, ◌&&◌, if◌then◌else◌, option_and_then, option_map_or, result_err, cases_eq, eq-eqb, eqb-true, ne_eqb, Sqe, Row, Phase, Queued, WorldState, updated, previous_in, chain_of, error_at, error_of, row_of as batch_row_of, rows_of, shown_on, is_guard, is_linked, is_queued, is_unfinished, Became, became, get-batch, get-appended, get-updated, GuardsAreLinked, is_guard_of, started, AllGuardsLinked, GuardIsLinked, WellFormed, Machine}
-use Rattle.opcodes.specs.Check.{can_guard, check_of}
-use Rattle.links_drains.specs.Eligible.{GuardsFollow, is_eligible}
+use Rattle.machine.proofs.Common.{◌≡◌, ℕ, ℤ, zero, suc, Bool, true, false, cond, refl, sym, ◌∙◌, ap, subst, List, [], ◌∷◌, ◌++◌, length, ◌+◌, ◌-◌, inl, inr, arith, Option, Some, None, option_map, is_none, slice_get, ◌==◌, ◌&&◌, if◌then◌else◌, option_and_then, option_map_or, result_err, cases_eq, eq-eqb, eqb-true, ne_eqb, Sqe, Row, Phase, Queued, WorldState, updated, previous_in, chain_of, error_at, error_of, row_of as batch_row_of, rows_of, shown_on, is_guard, is_linked, is_queued, is_unfinished, Became, became, get-batch, get-appended, get-updated, GuardsAreLinked, is_guard_of, started, AllGuardsLinked, GuardIsLinked, WellFormed, Machine, GuardsFollow, is_eligible, can_guard, check_of}
 
 -- ---- What cascades require of linked timeouts
 

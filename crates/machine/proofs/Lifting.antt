@@ -1,7 +1,6 @@
 -- Changes that a part of the machine records correctly are recorded correctly for the whole
 -- machine.
-use Rattle.machine.proofs.Common.{◌≡◌, ℕ, ◌<◌, Bool, true, false, refl, length, List, arith, Option, Some, slice_set, if◌then◌else◌, Sqe, Row, Place, SubmissionHead, SubmissionTail, SubmissionFlags, SubmissionDropped, Array, Slot, MemoryByte, FileByte, DurableByte, FileLength, DurableLength, Position, OpenMark, PipeByte, PutCount, TakenCount, EventCount, Request, Backlog, BacklogFront, Clock, Counted, ProgramCounter, ThreadStage, Last, Got, Value, Number, Entry, Change, put_at, Keeps, Noted, same_place_is, keeps_noted, SubWords, sub_owns, sub_seen, WorldState, world_owns, world_seen, table_owns, table_seen, BacklogState, backlog_owns, backlog_seen, ThreadState, threads_owns, threads_seen, view, everywhere, Machine}
-use Rattle.places.specs.Places.{same_place}
+use Rattle.machine.proofs.Common.{◌≡◌, ℕ, ◌<◌, Bool, true, false, refl, length, List, arith, Option, Some, slice_set, if◌then◌else◌, Sqe, Row, Place, SubmissionHead, SubmissionTail, SubmissionFlags, SubmissionDropped, Array, Slot, MemoryByte, FileByte, DurableByte, FileLength, DurableLength, Position, OpenMark, PipeByte, PutCount, TakenCount, EventCount, Request, Backlog, BacklogFront, Clock, Counted, ProgramCounter, ThreadStage, Last, Got, Value, Number, Entry, Change, put_at, Keeps, Noted, same_place_is, keeps_noted, SubWords, sub_owns, sub_seen, WorldState, world_owns, world_seen, table_owns, table_seen, BacklogState, backlog_owns, backlog_seen, ThreadState, threads_owns, threads_seen, view, everywhere, Machine, same_place}
 use Rattle.ring_words.proofs.Seen.{sub_seen_slot}
 
 pub lift_world : (m : Machine) (w : WorldState) (cs ds : List Change) → Keeps world_owns (world_seen m.world) (world_seen w) cs ds → Keeps everywhere (view m) (view (record m { world = w })) cs ds

@@ -1,7 +1,6 @@
 -- Steps of a run, and going back over them.
-use Rattle.machine.proofs.Common.{◌≡◌, ℕ, refl, sym, ◌∙◌, ap, subst, List, [], ◌∷◌, ◌++◌, length, take, ◌+◌, ◌≤◌, arith, take_more, slice_get_within, get_or_from_slice_get, Some, None, unwrap_or, slice_get, Place, Change, view, everywhere, Grows, GoesBack, Link, Linked, Machine, Event}
+use Rattle.machine.proofs.Common.{◌≡◌, ℕ, refl, sym, ◌∙◌, ap, subst, List, [], ◌∷◌, ◌++◌, length, take, ◌+◌, ◌≤◌, arith, take_more, slice_get_within, get_or_from_slice_get, Some, None, unwrap_or, slice_get, Place, Change, view, everywhere, Grows, GoesBack, Link, Linked, Machine, Event, View, named, undo, undo_all, Keeps, LeadsBack}
 use Rattle.std.proofs.Math.Seq.{take-length}
-use Rattle.places.specs.View.{View, named, undo, undo_all, Keeps, LeadsBack}
 use Rattle.machine.proofs.Growing.{grows_after}
 
 -- The record of a step leads back.

@@ -1,7 +1,6 @@
 -- A submission of nothing changes nothing.
-use Rattle.machine.proofs.Common.{◌≡◌, ℕ, ℤ, pos, Bool, false, refl, sym, ◌∙◌, ap, List, [], length, ◌+◌, ◌⊎◌, inl, inr, arith, rules, Option, Some, None, slice_get, not, if◌then◌else◌, Row, direct_of, rows_of, ecanceled, ended_by, endings, given, or_else, result_in, map_numbered, is_unfinished, became, none_ended, WorldState, SubWords, Delivery, all_posted, is_clear, fall_of, guards_listed, is_met, with_guards, with_met, with_severed, taken_entries, NoneMet, WellFormed, flag_word, is_asleep, Machine, Enter, Take, common_steps}
+use Rattle.machine.proofs.Common.{◌≡◌, ℕ, ℤ, pos, Bool, false, refl, sym, ◌∙◌, ap, List, [], length, ◌+◌, ◌⊎◌, inl, inr, arith, rules, Option, Some, None, slice_get, not, if◌then◌else◌, Row, direct_of, rows_of, ecanceled, ended_by, endings, given, or_else, result_in, map_numbered, is_unfinished, became, none_ended, WorldState, SubWords, Delivery, all_posted, is_clear, fall_of, guards_listed, is_met, with_guards, with_met, with_severed, taken_entries, NoneMet, WellFormed, flag_word, is_asleep, Machine, Enter, Take, common_steps, after, all_ended, answered, delivery, entries_for, executed, cascaded, submitted, taken, with_delivery}
 use Rattle.timeouts_cancel.proofs.Listed.{upto_all}
-use Rattle.machine.specs.Steps.{after, all_ended, answered, delivery, entries_for, executed, cascaded, submitted, taken, with_delivery}
 use Rattle.machine.proofs.FormedSubmissions.{old_or_new}
 
 pub empty : {X : Type 0} (xs : List X) → length xs ≡ 0 → xs ≡ []

@@ -1,16 +1,6 @@
 -- Plans of events.
-use Rattle.std.specs.Prelude.{Result, Ok, Err, IfOk, None, Option}
-use Rattle.places.specs.declared.value.Stage.{Stage}
-use Rattle.places.specs.declared.value.Stage.TheVariants.{Waiting}
-use Rattle.scenario.specs.declared.event.Event.TheVariants.{Step}
-use Rattle.scenario.specs.declared.event.Refusal.{Refusal}
-use Rattle.scenario.specs.declared.setup.Instruction.{Instruction}
-use Rattle.machine.specs.Plans.{Plans}
-use Rattle.machine.specs.Steps.{answered, next_refusal, resumed, stepped, thread_refusal}
-use Rattle.machine.specs.Threads.{ThreadState}
 use Rattle.machine.specs.declared.planning.Plan.{Plan}
-use Rattle.machine.specs.declared.planning.Plan.TheVariants.{Return}
-use Rattle.machine.proofs.Common.{◌≡◌, ◌∙◌, ℕ, ℤ, pos, subst, false, sym, ap, cond, arith, Some, slice_get, option_map_or, Choice, Issued, Row, is_held_by, is_ended, is_cancel, is_timer, outcome_of, Outcome, Res, Effect, Does, CanDo, IsOpen, planned, after, cancelled, choice_refusal, finished, finished_as, full_refusal, outcome_refusal, refusal, Complete, Machine, Finish}
+use Rattle.machine.proofs.Common.{◌≡◌, ◌∙◌, ℕ, ℤ, pos, subst, false, sym, ap, cond, arith, Some, slice_get, option_map_or, Choice, Issued, Row, is_held_by, is_ended, is_cancel, is_timer, outcome_of, Outcome, Res, Effect, Does, CanDo, IsOpen, planned, after, cancelled, choice_refusal, finished, finished_as, full_refusal, outcome_refusal, refusal, Complete, Machine, Finish, answered, next_refusal, resumed, stepped, thread_refusal, Result, Ok, Err, IfOk, None, Option, Refusal, Waiting, Plans, ThreadState, Return, Stage, Step, Instruction}
 
 -- The refusal of a Finish of an issued request that is no timer.
 pub finish_of_issued : (m : Machine) (r : ℕ) (c : Choice) (row : Row) → slice_get m.table r ≡ Some row → is_timer row.entry.opcode ≡ false → row.phase ≡ Issued → refusal m (Finish r c) ≡ choice_refusal (is_held_by m.table) m.world row c

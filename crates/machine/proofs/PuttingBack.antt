@@ -1,8 +1,6 @@
 -- Undoing a list of changes.
-use Rattle.machine.proofs.Common.{◌≡◌, ℕ, Bool, true, sym, ◌∙◌, ap, subst, List, ◌∷◌, length, map, arith, Option, Some, None, is_some, option_map, slice_get, slice_get-map, length-map, Place, Request, Clock, Counted, PollerStage, ProgramCounter, ThreadStage, Last, Got, Value, Number, Signed, Requested, Staged, Reaped, Awake as AwakeValue, Change, same_place_is, same_list, fixed_of, counted-le-length, ended-le-length, was_fixed, as_many, sub_seen, com_seen, world_seen, BacklogFormed, backlog_seen, Poller, ThreadState, program_of, Machine}
-use Rattle.places.specs.View.{View, named, undo, put_at, LeadsBack, Exact}
+use Rattle.machine.proofs.Common.{◌≡◌, ℕ, Bool, true, sym, ◌∙◌, ap, subst, List, ◌∷◌, length, map, arith, Option, Some, None, is_some, option_map, slice_get, slice_get-map, length-map, Place, Request, Clock, Counted, PollerStage, ProgramCounter, ThreadStage, Last, Got, Value, Number, Signed, Requested, Staged, Reaped, Awake as AwakeValue, Change, same_place_is, same_list, fixed_of, counted-le-length, ended-le-length, was_fixed, as_many, sub_seen, com_seen, world_seen, BacklogFormed, backlog_seen, Poller, ThreadState, program_of, Machine, View, named, undo, put_at, LeadsBack, Exact, world_seen_can_put, world_absent_same, same_world}
 use Rattle.ring_words.proofs.Restoring.{none_here, some_here, same_through, sub_seen_can_put, com_seen_can_put, sub_absent_same, com_absent_same, same_sub, same_com}
-use Rattle.model_files.proofs.Restoring.{world_seen_can_put, world_absent_same, same_world}
 use Rattle.overflow.proofs.Restoring.{backlog_seen_can_put, backlog_absent_same, same_backlog}
 use Rattle.machine.specs.Whole.{view, can_put, stage_of, OneSetup, WellFormed}
 

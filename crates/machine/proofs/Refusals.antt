@@ -1,8 +1,6 @@
 -- The reported refusal is the one with the smallest number among the causes of an event.
-use Rattle.machine.proofs.Common.{◌≡◌, ℕ, Bool, true, false, cond, refl, sym, ◌∙◌, ap, subst, List, [], ◌∷◌, length, ◌+◌, ◌<◌, ◌⊎◌, inl, inr, arith, Option, Some, None, is_none, not, ◌==◌, ◌&&◌, slice_get, nat_le, unwrap_or, find, option_map_or, option_and_then, cases_order, le-leb, lt-leb, slice_get_cases, slice_get_within, Row, Choice, Outcome, is_cancel, outcome_of, Stage, Ready, Waiting, is_held_by, ThreadState, choice_refusal, flushed, full_refusal, instruction_refusal, next_refusal, outcome_refusal, ready_count, refusal, submission_refusal, thread_refusal, Machine, Instruction, Put, Push, Store, Enter, Reap, Close, Event, Step, Take, Sleep, Issue, Finish, Expire, Tick}
-use Rattle.ring_words.specs.Rings.{sub_list, waiting}
+use Rattle.machine.proofs.Common.{◌≡◌, ℕ, Bool, true, false, cond, refl, sym, ◌∙◌, ap, subst, List, [], ◌∷◌, length, ◌+◌, ◌<◌, ◌⊎◌, inl, inr, arith, Option, Some, None, is_none, not, ◌==◌, ◌&&◌, slice_get, nat_le, unwrap_or, find, option_map_or, option_and_then, cases_order, le-leb, lt-leb, slice_get_cases, slice_get_within, Row, Choice, Outcome, is_cancel, outcome_of, Stage, Ready, Waiting, is_held_by, ThreadState, choice_refusal, flushed, full_refusal, instruction_refusal, next_refusal, outcome_refusal, ready_count, refusal, submission_refusal, thread_refusal, Machine, Instruction, Put, Push, Store, Enter, Reap, Close, Event, Step, Take, Sleep, Issue, Finish, Expire, Tick, sub_list, waiting, Refusal}
 use Rattle.machine.specs.Refusals.{cannot_end, executes, has_cause, is_at_end, is_bad_choice, is_in_full, is_push, is_reap, is_unready, is_waits, number_of, submits_too_many, waits_still}
-use Rattle.scenario.specs.declared.event.Refusal.{Refusal}
 use Rattle.scenario.specs.declared.event.Refusal.TheVariants.{NoSuchThread, ThreadDone, SqFull, NothingToReap, StillWaiting, NoSuchRequest, WrongPhase, NotEligible, NotReady, NotDue, BadChoice, NoPoller, Asleep, NotIdle, ClockFull, RequestsFull, Memory}
 
 -- ---- The first of all refusals, by number

@@ -1,19 +1,9 @@
 -- Restoring the old values of a record, one change after the other.
-use Rattle.machine.proofs.Common.{◌≡◌, ℕ, ◌+◌, Bool, true, false, cond, refl, sym, ◌∙◌, ap, subst, List, [], ◌∷◌, ◌++◌, length, map, Option, Some, None, IsSome, is_some, unwrap_or, Place, Value, Byte, Change, same_place_is, same_place_self, WorldState, world_owns, world_seen, OneSetup as OneWorldSetup, fixed_of, Machine}
-use Rattle.places.specs.Places.{same_place}
-use Rattle.places.specs.declared.notes.runs.Region.{Region}
-use Rattle.places.specs.declared.notes.runs.Region.TheVariants.{Memory, File, Durable, Pipe}
-use Rattle.places.specs.View.{named, undo, put_at, Keeps, NamesOnce}
-use Rattle.places.specs.Runs.{place_in, old_bytes}
-use Rattle.places.specs.Masked.{BytesPresent}
-use Rattle.places.proofs.Undoing.{once_back, named_front, named_back, undo-append}
-use Rattle.places.proofs.KeptAt.{named_here}
+use Rattle.machine.proofs.Common.{◌≡◌, ℕ, ◌+◌, Bool, true, false, cond, refl, sym, ◌∙◌, ap, subst, List, [], ◌∷◌, ◌++◌, length, map, Option, Some, None, IsSome, is_some, unwrap_or, Place, Value, Byte, Change, same_place_is, same_place_self, WorldState, world_owns, world_seen, OneSetup as OneWorldSetup, fixed_of, Machine, same_place, named, undo, put_at, Keeps, NamesOnce, once_back, named_front, named_back, undo-append}
+use Rattle.places.{specs.declared.notes.runs.Region.Region, specs.declared.notes.runs.Region.TheVariants.Memory, specs.declared.notes.runs.Region.TheVariants.File, specs.declared.notes.runs.Region.TheVariants.Durable, specs.declared.notes.runs.Region.TheVariants.Pipe, specs.Runs.place_in, specs.Runs.old_bytes, specs.Masked.BytesPresent, proofs.KeptAt.named_here}
 use Rattle.model_files.proofs.PuttingBack.{named_in_world}
 use Rattle.model_files.proofs.Fixing as worlds
-use Rattle.machine.specs.Whole.{view, can_put, everywhere, OneSetup, Overwrites, Overwritten}
-use Rattle.machine.proofs.Lifting.{lift_world}
-use Rattle.machine.proofs.Staying.{Remains}
-use Rattle.machine.proofs.PuttingBack.{undo-cons, seen_can_put, absent_same, same_machine}
+use Rattle.machine.{specs.Whole.view, specs.Whole.can_put, specs.Whole.everywhere, specs.Whole.OneSetup, specs.Whole.Overwrites, specs.Whole.Overwritten, proofs.Lifting.lift_world, proofs.Staying.Remains, proofs.PuttingBack.undo-cons, proofs.PuttingBack.seen_can_put, proofs.PuttingBack.absent_same, proofs.PuttingBack.same_machine}
 
 -- The changes in `left` remain to be undone.
 pub record Restored (before : Machine) (cs : List Change) (now : Machine) (left : List Change) : Type 0 where

@@ -1,13 +1,8 @@
 -- The initial machine of a setup is well formed.
-use Rattle.machine.proofs.Common.{◌≡◌, ℕ, Bool, true, false, refl, sym, ◌∙◌, ap, subst, List, [], ◌∷◌, length, map, ◌+◌, ◌<◌, ◌≤◌, ◌^◌, arith, Option, Some, None, slice_get, ◌&&◌, list_all, slice_get_within, slice_get-map, length-replicate, take_more, map-append, get_or_from_slice_get, take, ◌++◌, option_map, zero, suc, rules, Row, rounded, zero_entry, waiting_none, formed_sub_start, formed_com_start, HasWidths, HaveWidths, IsDone, IsProgram, chained-none, ThreadState, thread_start, option_and_then, ContentsFit, PutsWithin, body_start, pipe_in, world_start, Ready, Waiting, is_asleep, flag_word, WellFormed, ThreadWellFormed, first_poller, start, completion_entries, Instruction}
-use Rattle.std.proofs.Math.Dec.{leb}
-use Rattle.std.proofs.lemmas.Bool.Decides.{nat_tests}
+use Rattle.machine.proofs.Common.{◌≡◌, ℕ, Bool, true, false, refl, sym, ◌∙◌, ap, subst, List, [], ◌∷◌, length, map, ◌+◌, ◌<◌, ◌≤◌, ◌^◌, arith, Option, Some, None, slice_get, ◌&&◌, list_all, slice_get_within, slice_get-map, length-replicate, take_more, map-append, get_or_from_slice_get, take, ◌++◌, option_map, zero, suc, rules, Row, rounded, zero_entry, waiting_none, formed_sub_start, formed_com_start, HasWidths, HaveWidths, IsDone, IsProgram, chained-none, ThreadState, thread_start, option_and_then, ContentsFit, PutsWithin, body_start, pipe_in, world_start, Ready, Waiting, is_asleep, flag_word, WellFormed, ThreadWellFormed, first_poller, start, completion_entries, Instruction, world_start_formed, setup_refusal, has_ring_sizes, is_between, is_completion_size, has_programs, is_program, is_instruction, has_memory, has_objects, has_descriptors}
+use Rattle.std.proofs.{Math.Dec.leb, lemmas.Bool.Decides.nat_tests}
 use Rattle.ring_words.proofs.Sizes.{rounded_size, size_some}
-use Rattle.scenario.specs.Setups.{setup_refusal, has_ring_sizes, is_between, is_completion_size, has_programs, is_program, is_instruction, has_memory, has_objects, has_descriptors}
-use Rattle.places.specs.declared.object.Contents.{Contents}
-use Rattle.places.specs.declared.object.Object.{Object}
-use Rattle.places.specs.declared.object.Descriptor.{Descriptor}
-use Rattle.model_files.proofs.Forming.{world_start_formed}
+use Rattle.places.specs.declared.object.{Contents.Contents, Object.Object, Descriptor.Descriptor}
 use Rattle.scenario.specs.declared.setup.Setup.{Setup}
 
 both_true : (a b : Bool) → (a && b) ≡ true → (a ≡ true) × (b ≡ true)

@@ -1,8 +1,6 @@
 -- How many requests and overflowed completions remain when a step is undone.
 use Rattle.machine.proofs.Common.{◌≡◌, ℕ, sym, subst, ◌∙◌, List, length, take, map, length-take-le, Place, Request, Backlog, Completed, Requested, Change, undo, LeadsBack, fixed_of, stay_cut, Machine}
-use Rattle.places.specs.declared.listed.Listed.TheVariants.{Requests, Overflowed}
-use Rattle.places.specs.Notes.{IsLeft}
-use Rattle.places.proofs.Restored.{left_all, left_back}
+use Rattle.places.{specs.declared.listed.Listed.TheVariants.Requests, specs.declared.listed.Listed.TheVariants.Overflowed, specs.Notes.IsLeft, proofs.Restored.left_all, proofs.Restored.left_back}
 use Rattle.machine.specs.Whole.{view, GoesBack, OneSetup, WellFormed}
 
 -- The machine with fewer requests and fewer items of the backlog.

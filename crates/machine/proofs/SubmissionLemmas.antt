@@ -1,6 +1,5 @@
 -- Lemmas about what a submission consumes.
-use Rattle.machine.proofs.Common.{◌≡◌, ℕ, ◌∙◌, ap, List, ◌++◌, length, take, ◌+◌, ◌-◌, ◌%◌, ◌≤◌, ◌^◌, arith, None, min, length-take-le, Row, rows_of, offered, entries_for, submission_refusal, taken, words_for, Machine}
-use Rattle.ring_words.specs.Rings.{SubWords, sub_list}
+use Rattle.machine.proofs.Common.{◌≡◌, ℕ, ◌∙◌, ap, List, ◌++◌, length, take, ◌+◌, ◌-◌, ◌%◌, ◌≤◌, ◌^◌, arith, None, min, length-take-le, Row, rows_of, offered, entries_for, submission_refusal, taken, words_for, Machine, SubWords, sub_list}
 use Rattle.machine.proofs.TakingWords.{take_least}
 
 -- ---- Refusals

@@ -1,6 +1,5 @@
 -- Reading the words of the submission ring, and the entries that they refer to.
-use Rattle.machine.proofs.Common.{◌≡◌, ℕ, zero, suc, Bool, cond, refl, sym, ◌∙◌, ap, List, [], ◌∷◌, ◌++◌, length, take, drop, ◌+◌, ◌-◌, ◌<◌, ◌≤◌, arith, Some, None, is_some, slice_get, min, common_steps, append-nil, take_more, slice_get_within, get_or_from_slice_get, Sqe, entries_at, up_to_entry}
-use Rattle.std.proofs.lemmas.List.Elements.{filter_map-append}
+use Rattle.machine.proofs.Common.{◌≡◌, ℕ, zero, suc, Bool, cond, refl, sym, ◌∙◌, ap, List, [], ◌∷◌, ◌++◌, length, take, drop, ◌+◌, ◌-◌, ◌<◌, ◌≤◌, arith, Some, None, is_some, slice_get, min, common_steps, append-nil, take_more, slice_get_within, get_or_from_slice_get, Sqe, entries_at, up_to_entry, filter_map-append}
 
 -- To take more items than there are takes all of them.
 pub take_least : {X : Type 0} (k : ℕ) (xs : List X) → take (min k (length xs)) xs ≡ take k xs

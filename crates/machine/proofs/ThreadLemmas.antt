@@ -1,6 +1,5 @@
 -- The places of changed threads.
-use Rattle.machine.proofs.Common.{◌≡◌, ℕ, zero, suc, ℤ, Bool, true, cond, refl, sym, ◌∙◌, ap, List, [], ◌∷◌, arith, Option, Some, slice_get, slice_set, ◌&&◌, slice_get_within, Cqe, Stage, Place, ProgramCounter, ThreadStage, Last, Got, Number, Signed, Staged, Reaped, put_at, updated, field_set, field_same, ThreadState, threads_seen}
-use Rattle.places.specs.Places.{same_place}
+use Rattle.machine.proofs.Common.{◌≡◌, ℕ, zero, suc, ℤ, Bool, true, cond, refl, sym, ◌∙◌, ap, List, [], ◌∷◌, arith, Option, Some, slice_get, slice_set, ◌&&◌, slice_get_within, Cqe, Stage, Place, ProgramCounter, ThreadStage, Last, Got, Number, Signed, Staged, Reaped, put_at, updated, field_set, field_same, ThreadState, threads_seen, same_place}
 
 -- Places of the same kind differ only by their index.
 one_index : {X : Type 0} (b : Bool) (x y : X) → cond b x y ≡ cond (b && true) x y

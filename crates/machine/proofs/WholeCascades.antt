@@ -1,7 +1,6 @@
 -- Cascades are complete, because the target of an unfinished linked timeout is no linked timeout.
 use Rattle.machine.proofs.Common.{◌≡◌, ℕ, false, List, ◌++◌, length, ◌+◌, ◌⊎◌, inl, inr, arith, Some, slice_get, Row, rows_of, is_guard, GuardsFormed, entries_for, taken, GuardIsLinked, WellFormed, Machine}
-use Rattle.machine.proofs.FormedSubmissions.{old_or_new}
-use Rattle.machine.proofs.GuardLemmas.{batch_target, guard_before}
+use Rattle.machine.proofs.{FormedSubmissions.old_or_new, GuardLemmas.batch_target, GuardLemmas.guard_before}
 
 -- The target of a linked timeout is no linked timeout.
 target_is_no_guard : (rows : List Row) (r t : ℕ) (x target : Row) → GuardIsLinked rows r x → x.target ≡ Some t → slice_get rows t ≡ Some target → is_guard target ≡ false

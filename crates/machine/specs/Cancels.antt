@@ -1,12 +1,7 @@
 -- The outcome of cancellations and removals (io_uring_enter(2), IORING_OP_ASYNC_CANCEL,
 -- IORING_OP_POLL_REMOVE and IORING_OP_TIMEOUT_REMOVE).
 use Rattle.std.specs.Prelude.{ℕ, ℤ, pos, negsuc, ◌==◌, nat_lt, Bool, ◌&&◌, if◌then◌else◌, List, [], ◌∷◌, ◌++◌, length, map}
-use Rattle.std.specs.List.{filter}
-use Rattle.entries.specs.declared.entry.Sqe.{Sqe}
-use Rattle.entries.specs.declared.row.Row.{Row}
-use Rattle.model_files.specs.Worlds.{WorldState}
-use Rattle.links_drains.specs.Links.{has_flag}
-use Rattle.links_drains.specs.Endings.{Ending, ecanceled}
+use Rattle.machine.specs.Common.{Row, WorldState, Sqe, has_flag, filter, Ending, ecanceled}
 use Rattle.timeouts_cancel.specs.declared.matching.Key.{Key}
 use Rattle.timeouts_cancel.specs.declared.matching.Key.TheVariants.{User, Fd, Poll, Timeout}
 use Rattle.timeouts_cancel.specs.declared.matching.Found.{Found}

@@ -1,8 +1,6 @@
 -- Deadlines of issued requests.
 use Rattle.std.specs.Prelude.{ℕ, Option, None, List, slice_get, if◌then◌else◌}
-use Rattle.std.specs.Option.{option_map_or}
-use Rattle.entries.specs.declared.row.Row.{Row}
-use Rattle.links_drains.specs.Phases.{is_issued}
+use Rattle.machine.specs.Common.{Row, is_issued, option_map_or}
 
 -- The deadline of a request, if it is issued and has one.
 abbrev pub issued_deadline : Row → Option ℕ

@@ -1,3 +1,4 @@
+pub mod Common
 pub mod Threads
 pub mod Submission
 pub mod Whole

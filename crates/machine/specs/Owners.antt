@@ -1,11 +1,7 @@
 -- Which part of the machine a place belongs to. `Rest` is the machine's own numbers and the
 -- poller's stage. Public contracts don't use it.
 use Rattle.std.specs.Prelude.{◌≡◌, true, false, ◌||◌}
-use Rattle.places.specs.declared.place.Place.{Place}
-use Rattle.ring_words.specs.Rings.{sub_owns, com_owns}
-use Rattle.model_files.specs.Worlds.{world_owns}
-use Rattle.links_drains.specs.Rows.{table_owns}
-use Rattle.overflow.specs.Backlogs.{backlog_owns}
+use Rattle.machine.specs.Common.{world_owns, sub_owns, com_owns, backlog_owns, Place, table_owns}
 use Rattle.machine.specs.Threads.{threads_owns}
 use Rattle.machine.specs.declared.whole.Owner.{Owner}
 use Rattle.machine.specs.declared.whole.Owner.TheVariants.{Submissions, Completions, World, Table, Backlog, Threads, Rest}

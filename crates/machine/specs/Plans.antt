@@ -1,23 +1,11 @@
 -- What an event does, once it is decided.
 use Rattle.std.specs.Prelude.{◌≡◌, ℕ, pos, ◌+◌, true, false, is_some, None, Some, slice_get}
-use Rattle.std.specs.Option.{option_map_or}
-use Rattle.entries.specs.declared.row.Row.{Row}
-use Rattle.entries.specs.declared.choice.Choice.{Choice}
-use Rattle.links_drains.specs.Holding.{is_held_by}
-use Rattle.links_drains.specs.Phases.{is_ended}
-use Rattle.opcodes.specs.Effects.{Does}
-use Rattle.opcodes.specs.Outcomes.{outcome_of}
-use Rattle.opcodes.specs.declared.ending.Outcome.TheVariants.{Res}
-use Rattle.places.specs.declared.value.Stage.{Stage}
-use Rattle.places.specs.declared.value.Stage.TheVariants.{Ready, Waiting}
-use Rattle.sqpoll.specs.declared.poller.Poller.TheVariants.{Asleep}
+use Rattle.machine.specs.Common.{Row, is_ended, Ready, Waiting, option_map_or, is_held_by, outcome_of, Stage, Event, Choice, Res, Step, Issue, Expire, Tick, Asleep, Does}
 use Rattle.machine.specs.Steps.{after, answered, cancelled, executed, expired, finished_as, issued, next_of, refusal, submission_refusal, submitted, with_poller}
 use Rattle.machine.specs.Threads.{ThreadState}
 use Rattle.machine.specs.declared.planning.Plan.{Plan}
 use Rattle.machine.specs.declared.planning.Plan.TheVariants.{Execute, Return, Submit, Rest, Start, Cancel, Complete, TimeOut, Advance}
 use Rattle.machine.specs.declared.whole.Machine.{Machine}
-use Rattle.scenario.specs.declared.event.Event.{Event}
-use Rattle.scenario.specs.declared.event.Event.TheVariants.{Step, Issue, Expire, Tick}
 
 -- The machine after a plan was carried out.
 abbrev pub planned : Machine → Plan → Machine

@@ -1,31 +1,12 @@
 -- The cause of each refusal, independent of other causes. If an event has several, the smallest
 -- number is reported.
 use Rattle.std.specs.Prelude.{ℕ, ◌+◌, ◌-◌, ◌^◌, ◌==◌, Bool, true, false, not, ◌&&◌, ◌||◌, nat_lt, nat_le, if◌then◌else◌, Option, None, is_none, slice_get, length}
-use Rattle.std.specs.Option.{option_map_or, option_and_then}
-use Rattle.entries.specs.declared.row.Row.{Row}
-use Rattle.entries.specs.declared.choice.Choice.{Choice}
-use Rattle.entries.specs.declared.choice.Choice.TheVariants.{Full, Short, Eio}
-use Rattle.opcodes.specs.declared.ending.Outcome.{Outcome}
-use Rattle.opcodes.specs.declared.ending.Outcome.TheVariants.{Res, Waits, BadChoice}
-use Rattle.opcodes.specs.Opcodes.{is_cancel, is_timer}
-use Rattle.opcodes.specs.Outcomes.{outcome_of}
-use Rattle.places.specs.declared.value.Stage.{Stage}
-use Rattle.places.specs.declared.value.Stage.TheVariants.{Ready, Waiting}
-use Rattle.ring_words.specs.Rings.{waiting}
-use Rattle.links_drains.specs.Eligible.{is_eligible}
-use Rattle.links_drains.specs.Holding.{is_held_by}
-use Rattle.links_drains.specs.Phases.{is_issued, is_queued}
-use Rattle.timeouts_cancel.specs.Timers.{is_due}
+use Rattle.machine.specs.Common.{Row, is_issued, is_queued, waiting, Ready, Waiting, option_map_or, option_and_then, is_held_by, outcome_of, Stage, Event, Choice, Full, Short, Eio, is_cancel, is_timer, Res, Waits, BadChoice, Step, Take, Sleep, Issue, Finish, Expire, Tick, Refusal, Instruction, Push, Enter, Reap, is_eligible, Outcome, is_due}
 use Rattle.machine.specs.Submission.{offered}
 use Rattle.machine.specs.Threads.{ThreadState}
 use Rattle.machine.specs.Steps.{before_submission, is_busy, is_unknown, ready_count}
 use Rattle.machine.specs.Whole.{is_asleep}
 use Rattle.machine.specs.declared.whole.Machine.{Machine}
-use Rattle.scenario.specs.declared.setup.Instruction.{Instruction}
-use Rattle.scenario.specs.declared.setup.Instruction.TheVariants.{Push, Enter, Reap}
-use Rattle.scenario.specs.declared.event.Event.{Event}
-use Rattle.scenario.specs.declared.event.Event.TheVariants.{Step, Take, Sleep, Issue, Finish, Expire, Tick}
-use Rattle.scenario.specs.declared.event.Refusal.{Refusal}
 use Rattle.scenario.specs.declared.event.Refusal.TheVariants.{NoSuchThread, ThreadDone, SqFull, NothingToReap, StillWaiting, NoSuchRequest, WrongPhase, NotEligible, NotReady, NotDue, BadChoice as IsBadChoice, NoPoller, Asleep, NotIdle, ClockFull, RequestsFull, Memory}
 
 -- The number of a refusal.

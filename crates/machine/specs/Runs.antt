@@ -1,20 +1,12 @@
 -- Initial machines, runs and their moments, and undo records.
 use Rattle.std.specs.Prelude.{◌≡◌, ℕ, Bool, true, false, Option, Some, None, List, [], ◌∷◌, map, take, slice_get}
-use Rattle.places.specs.declared.value.Change.{Change}
-use Rattle.places.specs.View.{LeadsBack}
-use Rattle.ring_words.specs.Rings.{sub_start, com_start}
-use Rattle.overflow.specs.Backlogs.{backlog_start}
-use Rattle.model_files.specs.Worlds.{world_start}
-use Rattle.sqpoll.specs.declared.poller.Poller.{Poller}
-use Rattle.sqpoll.specs.declared.poller.Poller.TheVariants.{Awake}
+use Rattle.machine.specs.Common.{world_start, sub_start, com_start, Event, backlog_start, LeadsBack, Refusal, Poller, Awake, Change}
 pub use Rattle.scenario.specs.Setups.{setup_refusal, completion_entries}
 use Rattle.machine.specs.Threads.{thread_start}
 use Rattle.machine.specs.Whole.{view, WellFormed}
 use Rattle.machine.specs.Steps.{refusal, after, Next}
 use Rattle.scenario.specs.declared.setup.Setup.{Setup}
 use Rattle.machine.specs.declared.whole.Machine.{Machine}
-use Rattle.scenario.specs.declared.event.Event.{Event}
-use Rattle.scenario.specs.declared.event.Refusal.{Refusal}
 
 -- ---- The initial machine
 

@@ -1,49 +1,17 @@
 -- Which events are refused, and how the others change the machine.
 use Rattle.std.specs.Prelude.{◌≡◌, ℤ, pos, negsuc, ℕ, ◌+◌, ◌-◌, ◌%◌, ◌^◌, ◌==◌, Bool, false, not, ◌&&◌, ◌||◌, nat_lt, min, if◌then◌else◌, Option, Some, None, option_map, slice_get, slice_set, List, [], ◌∷◌, ◌++◌, length}
 use Rattle.std.specs.Int.Bits.{bit_and}
-use Rattle.std.specs.Option.{option_map_or}
-use Rattle.std.specs.List.{filter_map}
-use Rattle.entries.specs.declared.completion.Cqe.{Cqe}
-use Rattle.entries.specs.declared.entry.Sqe.{Sqe}
-use Rattle.entries.specs.declared.row.Row.{Row}
+use Rattle.machine.specs.Common.{Row, is_issued, is_queued, WorldState, descriptor_at, descriptor_of, world_closed, world_stored, waiting, with_flag, Ready, Waiting, option_map_or, is_held_by, is_running, outcome_of, Stage, Event, Choice, Full, Short, Eio, Sqe, has_flag, is_guard, is_cancel, is_timer, uses_descriptor, fits_end, Res, Waits, BadChoice, Step, Take, Sleep, Issue, Finish, Expire, Tick, Refusal, Instruction, Put, Push, Store, Enter, Reap, Close, Poller, Awake, Asleep, filter_map, Cqe, rows_of, direct_of, is_eligible, Ending, ecanceled, ended_by, DescriptorState, world_after, Outcome, is_awake, counted_in, fall_of, is_due}
 use Rattle.entries.specs.declared.row.Phase.{Phase}
 use Rattle.entries.specs.declared.row.Phase.TheVariants.{Queued, Issued, Ended}
-use Rattle.entries.specs.declared.choice.Choice.{Choice}
-use Rattle.entries.specs.declared.choice.Choice.TheVariants.{Full, Short, Eio}
-use Rattle.opcodes.specs.declared.ending.Outcome.{Outcome}
-use Rattle.opcodes.specs.declared.ending.Outcome.TheVariants.{Res, Waits, BadChoice}
-use Rattle.opcodes.specs.Opcodes.{is_cancel, is_timer, uses_descriptor, fits_end}
-use Rattle.links_drains.specs.Holding.{is_held_by}
-use Rattle.opcodes.specs.Outcomes.{is_running, outcome_of}
-use Rattle.opcodes.specs.Effects.{world_after}
-use Rattle.model_files.specs.declared.descriptor.DescriptorState.{DescriptorState}
-use Rattle.model_files.specs.Worlds.{WorldState, descriptor_at, descriptor_of, world_closed, world_stored}
 use Rattle.places.specs.Lists.{updated}
-use Rattle.places.specs.declared.value.Stage.{Stage}
-use Rattle.places.specs.declared.value.Stage.TheVariants.{Ready, Waiting}
-use Rattle.ring_words.specs.Rings.{waiting, with_flag}
 use Rattle.ring_words.specs.declared.flag.RingFlag.TheVariants.{NeedWakeup}
 use Rattle.overflow.specs.Backlogs.{Delivery, delivery_of, is_clear, all_posted, flushed as flushed_delivery}
-use Rattle.sqpoll.specs.declared.poller.Poller.{Poller}
-use Rattle.sqpoll.specs.declared.poller.Poller.TheVariants.{Awake, Asleep}
-use Rattle.sqpoll.specs.Pollers.{is_awake}
-use Rattle.links_drains.specs.Batches.{rows_of, direct_of}
-use Rattle.links_drains.specs.Eligible.{is_eligible}
-use Rattle.links_drains.specs.Endings.{Ending, ecanceled, ended_by}
-use Rattle.links_drains.specs.Links.{has_flag, is_guard}
 use Rattle.links_drains.specs.Numbered.{map_numbered}
-use Rattle.links_drains.specs.Phases.{is_issued, is_queued}
-use Rattle.timeouts_cancel.specs.Cascades.{counted_in, fall_of}
-use Rattle.timeouts_cancel.specs.Timers.{is_due}
 use Rattle.machine.specs.Cancels.{verdict_of, ending_with}
 use Rattle.machine.specs.Submission.{offered, taken_words, taken_entries, einval, ebusy, ebadf, etime}
 use Rattle.machine.specs.Threads.{ThreadState}
-use Rattle.scenario.specs.declared.setup.Instruction.{Instruction}
-use Rattle.scenario.specs.declared.setup.Instruction.TheVariants.{Put, Push, Store, Enter, Reap, Close}
 use Rattle.machine.specs.declared.whole.Machine.{Machine}
-use Rattle.scenario.specs.declared.event.Event.{Event}
-use Rattle.scenario.specs.declared.event.Event.TheVariants.{Step, Take, Sleep, Issue, Finish, Expire, Tick}
-use Rattle.scenario.specs.declared.event.Refusal.{Refusal}
 use Rattle.scenario.specs.declared.event.Refusal.TheVariants.{NoSuchThread, ThreadDone, SqFull, NothingToReap, StillWaiting, NoSuchRequest, WrongPhase, NotEligible, NotReady, NotDue, BadChoice as IsBadChoice, NoPoller, Asleep as IsAsleep, NotIdle, ClockFull, RequestsFull}
 
 -- ---- Flags of Enter (io_uring_enter(2))

@@ -1,10 +1,6 @@
 -- What a submission consumes from the ring (io_uring_enter(2)).
 use Rattle.std.specs.Prelude.{ℕ, zero, suc, ℤ, negsuc, Bool, is_some, if◌then◌else◌, slice_get, List, [], ◌∷◌, length, take}
-use Rattle.std.specs.List.{filter_map}
-use Rattle.entries.specs.declared.entry.Sqe.{Sqe}
-use Rattle.links_drains.specs.Batches.{halts, taken_of}
-use Rattle.model_files.specs.Worlds.{WorldState}
-use Rattle.ring_words.specs.Rings.{SubWords, sub_list}
+use Rattle.machine.specs.Common.{WorldState, SubWords, sub_list, Sqe, filter_map, halts, taken_of}
 use Rattle.machine.specs.declared.submitting.Entries.{Entries}
 use Rattle.machine.specs.declared.submitting.Entries.TheVariants.{One, Many}
 

@@ -1,15 +1,7 @@
 -- Threads of the program, and their places.
 use Rattle.std.specs.Prelude.{ℕ, ℤ, pos, ◌<◌, ◌^◌, Bool, true, false, Option, Some, None, option_map, slice_get, List, length, FitsSigned}
-use Rattle.std.specs.Int.{w64}
-use Rattle.entries.specs.declared.completion.Cqe.{Cqe}
-use Rattle.places.specs.declared.value.Stage.{Stage}
-use Rattle.places.specs.declared.value.Stage.TheVariants.{Ready}
-use Rattle.places.specs.declared.place.Place.{Place}
-use Rattle.places.specs.declared.place.Place.TheVariants.{ProgramCounter, ThreadStage, Last, Got}
-use Rattle.places.specs.declared.value.Value.{Value}
+use Rattle.machine.specs.Common.{Ready, Stage, View, Place, Instruction, Cqe, ProgramCounter, ThreadStage, Last, Got, Value, w64}
 use Rattle.places.specs.declared.value.Value.TheVariants.{Number, Signed, Staged, Reaped}
-use Rattle.places.specs.View.{View}
-use Rattle.scenario.specs.declared.setup.Instruction.{Instruction}
 
 -- A thread: its program, the index of its next instruction, whether it waits, the result of its
 -- last Enter or Close, and the completion that it reaped last.

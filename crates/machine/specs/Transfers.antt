@@ -1,13 +1,6 @@
 -- How many bytes a READ or WRITE transfers in full.
 use Rattle.std.specs.Prelude.{ℕ, Bool, ◌&&◌, if◌then◌else◌, Option, None, slice_get}
-use Rattle.std.specs.Option.{option_map_or}
-use Rattle.entries.specs.declared.row.Row.{Row}
-use Rattle.entries.specs.declared.choice.Choice.TheVariants.{Full}
-use Rattle.model_files.specs.Worlds.{WorldState}
-use Rattle.opcodes.specs.Outcomes.{count_in, outcome_of}
-use Rattle.links_drains.specs.Holding.{is_held_by}
-use Rattle.links_drains.specs.Phases.{is_issued}
-use Rattle.timeouts_cancel.specs.Cascades.{is_transfer}
+use Rattle.machine.specs.Common.{Row, is_issued, WorldState, option_map_or, is_held_by, count_in, outcome_of, Full, is_transfer}
 use Rattle.machine.specs.declared.whole.Machine.{Machine}
 
 -- How many bytes an issued READ or WRITE transfers if it completes in full (read(2), write(2)).

@@ -1,28 +1,11 @@
 -- The whole machine: the values of its places, and the invariants of well-formed machines.
 use Rattle.std.specs.Prelude.{◌≡◌, pos, ℕ, ◌+◌, ◌-◌, ◌*◌, ◌<◌, ◌≤◌, ◌^◌, Bool, true, false, not, if◌then◌else◌, Option, Some, None, is_some, IsSome, slice_get, map, List, length, FitsSigned}
-use Rattle.std.specs.Int.{w64}
-use Rattle.entries.specs.declared.row.Row.{Row}
-use Rattle.places.specs.declared.place.Place.{Place}
-use Rattle.places.specs.declared.place.Place.TheVariants.{SubmissionHead, SubmissionTail, SubmissionFlags, SubmissionDropped, CompletionHead, CompletionTail, Array, Slot, Completion, MemoryByte, FileByte, DurableByte, FileLength, DurableLength, Position, OpenMark, PipeByte, PutCount, TakenCount, EventCount, Request, Backlog, BacklogFront, Clock, Counted, PollerStage, ProgramCounter, ThreadStage, Last, Got}
-use Rattle.places.specs.declared.value.Value.{Value}
+use Rattle.machine.specs.Common.{Row, is_queued, is_issued, is_unfinished, counted_of, ended_of, SubWords, ComWords, waiting, sub_seen, sub_can_put, SubFormed, com_seen, com_can_put, ComFormed, Waiting, is_guard, Chained, is_timer, uses_descriptor, fits_end, BacklogState, is_clear, backlog_seen, backlog_can_put, View, named, undo, LeadsBack, Place, Enter, Poller, fixed_of, Stay, table_seen, table_can_put, DescriptorState, SubmissionHead, SubmissionTail, SubmissionFlags, SubmissionDropped, CompletionHead, CompletionTail, Array, Slot, Completion, MemoryByte, FileByte, DurableByte, FileLength, DurableLength, Position, OpenMark, PipeByte, PutCount, TakenCount, EventCount, Request, Backlog, BacklogFront, Clock, Counted, PollerStage, ProgramCounter, ThreadStage, Last, Got, Change, Value, is_awake, poller_seen, w64}
 use Rattle.places.specs.declared.value.Value.TheVariants.{Number, Awake as IsAwake}
-use Rattle.places.specs.declared.value.Stage.TheVariants.{Waiting}
-use Rattle.places.specs.declared.value.Change.{Change}
-use Rattle.places.specs.View.{View, named, undo, LeadsBack}
-use Rattle.ring_words.specs.Rings.{SubWords, ComWords, waiting, sub_seen, sub_can_put, SubFormed, com_seen, com_can_put, ComFormed}
 use Rattle.links_drains.specs.Counts.{is_met}
-use Rattle.links_drains.specs.Links.{is_guard, Chained}
-use Rattle.links_drains.specs.Rows.{fixed_of, Stay, table_seen, table_can_put}
-use Rattle.links_drains.specs.Phases.{is_queued, is_issued, is_unfinished, counted_of, ended_of}
-use Rattle.model_files.specs.declared.descriptor.DescriptorState.{DescriptorState}
 use Rattle.model_files.specs.Worlds.{WorldState, WorldFormed, world_seen, world_can_put, descriptor_of, OneSetup as OneWorldSetup, PutsWithin}
 use Rattle.opcodes.specs.Check.{op_of}
-use Rattle.opcodes.specs.Opcodes.{is_timer, uses_descriptor, fits_end}
-use Rattle.overflow.specs.Backlogs.{BacklogState, is_clear, backlog_seen, backlog_can_put}
-use Rattle.sqpoll.specs.declared.poller.Poller.{Poller}
-use Rattle.sqpoll.specs.Pollers.{is_awake, poller_seen}
 use Rattle.scenario.specs.Programs.{IsProgram}
-use Rattle.scenario.specs.declared.setup.Instruction.TheVariants.{Enter}
 use Rattle.machine.specs.Threads.{ThreadState, program_of, threads_seen, threads_can_put}
 use Rattle.machine.specs.declared.whole.Machine.{Machine}
 

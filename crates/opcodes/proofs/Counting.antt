@@ -1,6 +1,5 @@
 -- Bounds on how many bytes have been written to a pipe over the whole run.
-use Rattle.opcodes.proofs.Common.{◌≡◌, ℕ, ℤ, pos, negsuc, zero, suc, Bool, refl, sym, ◌∙◌, ap, List, [], ◌∷◌, length, drop, length-take, ◌+◌, ◌≤◌, arith, rules, Option, Some, None, slice_get, option_and_then, option_map_or, Sqe, Row, Body, DescriptorState, Stock, File, Pipe, EventFd, part, synced, written, PipeState, put_in, taken_out, WorldState, PutsWithin, descriptor_of, number_at, on_counter, on_file, on_pipe, pipe_in, stock_of, world_added, world_cleared, world_put, world_synced, world_taken, Choice, Op, Fsync, Read, Write, Res, op_of, outcome_of, held_descriptor, moved_on, bytes_read, bytes_written, done_by, world_after}
-use Rattle.places.specs.Lists.{updated}
+use Rattle.opcodes.proofs.Common.{◌≡◌, ℕ, ℤ, pos, negsuc, zero, suc, Bool, refl, sym, ◌∙◌, ap, List, [], ◌∷◌, length, drop, length-take, ◌+◌, ◌≤◌, arith, rules, Option, Some, None, slice_get, option_and_then, option_map_or, Sqe, Row, Body, DescriptorState, Stock, File, Pipe, EventFd, part, synced, written, PipeState, put_in, taken_out, WorldState, PutsWithin, descriptor_of, number_at, on_counter, on_file, on_pipe, pipe_in, stock_of, world_added, world_cleared, world_put, world_synced, world_taken, Choice, Op, Fsync, Read, Write, Res, op_of, outcome_of, held_descriptor, moved_on, bytes_read, bytes_written, done_by, world_after, updated}
 use Rattle.opcodes.proofs.Transferring.{row_written}
 
 -- The bound for a list of objects.

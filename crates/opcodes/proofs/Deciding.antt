@@ -1,11 +1,7 @@
 -- What a request does if it completes with an outcome.
-use Rattle.opcodes.proofs.Common.{◌≡◌, ℕ, ℤ, pos, sym, ◌∙◌, ap, subst, ◌≤◌, arith, Some, option_and_then, option_map_or, Row, DescriptorState, Stock, File, WorldState, descriptor_of, stock_of, Choice, Op, Res, op_of, held_descriptor, done_by, world_after}
+use Rattle.opcodes.proofs.Common.{◌≡◌, ℕ, ℤ, pos, sym, ◌∙◌, ap, subst, ◌≤◌, arith, Some, option_and_then, option_map_or, Row, DescriptorState, Stock, File, WorldState, descriptor_of, stock_of, Choice, Op, Res, op_of, held_descriptor, done_by, world_after, count_in, pipe_read, pipe_written, file_of, effected, CanCarry, Does}
 use Rattle.std.specs.Prelude.{IsSome, Bool, ◌-◌}
-use Rattle.model_files.specs.Worlds.{file_of}
-use Rattle.opcodes.specs.declared.effect.Effect.{Effect}
-use Rattle.opcodes.specs.declared.ending.Outcome.{Outcome}
-use Rattle.opcodes.specs.Effects.{effected, CanCarry, Does}
-use Rattle.opcodes.specs.Outcomes.{count_in, pipe_read, pipe_written}
+use Rattle.opcodes.specs.declared.{effect.Effect.Effect, ending.Outcome.Outcome}
 
 -- The descriptor that a request holds.
 pub descriptor_is : (w : WorldState) (row : Row) (fd : ℕ) (d : DescriptorState) → row.held ≡ Some fd → held_descriptor w row ≡ Some d → descriptor_of w fd ≡ Some d

@@ -1,9 +1,6 @@
 -- Setting a file position can't fail if there is room for its note.
-use Rattle.opcodes.proofs.Common.{◌≡◌, ℕ, arith, Result, IsOk, OnErr, WorldState}
-use Rattle.std.specs.Prelude.{IsSome}
+use Rattle.opcodes.proofs.Common.{◌≡◌, ℕ, arith, Result, IsOk, OnErr, WorldState, IsSome, world_seen, HasPosition}
 use Rattle.places.specs.declared.place.Place.TheVariants.{Position}
-use Rattle.model_files.specs.Worlds.{world_seen}
-use Rattle.opcodes.specs.Effects.{HasPosition}
 
 -- If a result is not an error, any claim about its error holds.
 pub moves : {A E : Type 0} (r : Result A E) (P : Type 0) → IsOk r → OnErr r P

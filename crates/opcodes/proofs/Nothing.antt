@@ -1,9 +1,7 @@
 -- A transfer of 0 bytes changes nothing.
 use Rattle.std.proofs.Common.{◌≡◌, ℕ, zero, suc, List, [], ◌∷◌, Some, refl, ap, ◌∙◌, take, drop, arith}
-use Rattle.opcodes.proofs.Common.{slice_get, Sqe, Body, DescriptorState, written, WorldState, WorldFormed, descriptor_of, on_file, world_put, world_read, world_taken, world_written, moved_on, bytes_read, bytes_written, offset_of, position_of}
-use Rattle.places.specs.Lists.{updated}
-use Rattle.model_files.specs.declared.body.Body.TheVariants.{File, Pipe, EventFd}
-use Rattle.model_files.proofs.Overwriting.{overwritten_none, written_none}
+use Rattle.opcodes.proofs.Common.{slice_get, Sqe, Body, DescriptorState, written, WorldState, WorldFormed, descriptor_of, on_file, world_put, world_read, world_taken, world_written, moved_on, bytes_read, bytes_written, offset_of, position_of, updated}
+use Rattle.model_files.{specs.declared.body.Body.TheVariants.File, specs.declared.body.Body.TheVariants.Pipe, specs.declared.body.Body.TheVariants.EventFd, proofs.Overwriting.overwritten_none, proofs.Overwriting.written_none}
 use Rattle.std.proofs.lemmas.Grind.{common_steps}
 
 updated_same : {X : Type 0} (f : X → X) (xs : List X) (i : ℕ) → ((x : X) → slice_get xs i ≡ Some x → f x ≡ x) → updated f xs i ≡ xs

@@ -1,9 +1,7 @@
 -- Completing a request preserves the invariant of the world.
-use Rattle.opcodes.proofs.Common.{◌≡◌, ℕ, ℤ, pos, negsuc, zero, suc, Bool, true, false, cond, refl, sym, subst, ◌∙◌, ap, ◌+◌, ◌≤◌, arith, option_and_then, option_map_or, Sqe, Row, DescriptorState, Stock, File, Pipe, EventFd, GivesOut, TakesIn, WorldState, WorldFormed, OneSetup, PutsWithin, descriptor_of, number_at, pipe_of, stock_of, world_at, world_put, world_read, world_taken, world_written, setup_self, setup_then, setup_read, setup_written, setup_synced, setup_taken, setup_put, setup_added, setup_cleared, Choice, Op, Fsync, Read, Write, Res, op_of, outcome_of, held_descriptor, is_at_position, offset_of, position_of, moved_on, bytes_read, bytes_written, done_by, world_after}
+use Rattle.opcodes.proofs.Common.{◌≡◌, ℕ, ℤ, pos, negsuc, zero, suc, Bool, true, false, cond, refl, sym, subst, ◌∙◌, ap, ◌+◌, ◌≤◌, arith, option_and_then, option_map_or, Sqe, Row, DescriptorState, Stock, File, Pipe, EventFd, GivesOut, TakesIn, WorldState, WorldFormed, OneSetup, PutsWithin, descriptor_of, number_at, pipe_of, stock_of, world_at, world_put, world_read, world_taken, world_written, setup_self, setup_then, setup_read, setup_written, setup_synced, setup_taken, setup_put, setup_added, setup_cleared, Choice, Op, Fsync, Read, Write, Res, op_of, outcome_of, held_descriptor, is_at_position, offset_of, position_of, moved_on, bytes_read, bytes_written, done_by, world_after, world_at_formed, world_read_formed, world_written_formed, world_synced_formed, world_taken_formed, world_put_formed, world_added_formed, world_cleared_formed}
 use Rattle.std.specs.Prelude.{Option, Some, None, IsSomeAnd, ◌^◌}
-use Rattle.model_files.proofs.Forming.{world_at_formed, world_read_formed, world_written_formed, world_synced_formed, world_taken_formed, world_put_formed, world_added_formed, world_cleared_formed}
-use Rattle.opcodes.proofs.Nothing.{bytes_read_nothing, bytes_written_nothing}
-use Rattle.opcodes.proofs.Transferring.{Moves, row_read, row_written, setup_moved, gives_out, takes_in, counts_to}
+use Rattle.opcodes.proofs.{Nothing.bytes_read_nothing, Nothing.bytes_written_nothing, Transferring.Moves, Transferring.row_read, Transferring.row_written, Transferring.setup_moved, Transferring.gives_out, Transferring.takes_in, Transferring.counts_to}
 
 -- The next world satisfies the invariant, and has the same fixed properties.
 pub record Stays (w v : WorldState) : Type 0 where

@@ -1,9 +1,7 @@
 -- Bounds that a successful transfer satisfies.
-use Rattle.opcodes.proofs.Common.{◌≡◌, ℕ, ℤ, pos, negsuc, Bool, cond, refl, sym, ◌∙◌, ap, subst, ◌+◌, ◌-◌, ◌<◌, ◌≤◌, ◌^◌, arith, option_and_then, Sqe, Row, Body, DescriptorState, Stock, File, Pipe, EventFd, PipeFormed, GivesOut, TakesIn, filled, WorldState, WorldFormed, BodyFormed, StockFits, OneSetup, PutsWithin, descriptor_of, file_of, pipe_in, pipe_of, counter_of, stock_in, stock_of, number_at, world_at, FileFormed, setup_at, Choice, Op, Read, Write, Res, op_of, fixed, passes_memory, offset_of, read_outcome, write_outcome, outcome_on, outcome_of, held_descriptor, position_of}
+use Rattle.opcodes.proofs.Common.{◌≡◌, ℕ, ℤ, pos, negsuc, Bool, cond, refl, sym, ◌∙◌, ap, subst, ◌+◌, ◌-◌, ◌<◌, ◌≤◌, ◌^◌, arith, option_and_then, Sqe, Row, Body, DescriptorState, Stock, File, Pipe, EventFd, PipeFormed, GivesOut, TakesIn, filled, WorldState, WorldFormed, BodyFormed, StockFits, OneSetup, PutsWithin, descriptor_of, file_of, pipe_in, pipe_of, counter_of, stock_in, stock_of, number_at, world_at, FileFormed, setup_at, Choice, Op, Read, Write, Res, op_of, fixed, passes_memory, offset_of, read_outcome, write_outcome, outcome_on, outcome_of, held_descriptor, position_of, file_formed}
 use Rattle.std.specs.Prelude.{Option, Some, None, IsSome, IsSomeAnd, is_some, option_map, slice_get, length}
-use Rattle.model_files.specs.declared.body.Body.TheVariants.{File as FileBody, Pipe as PipeBody, EventFd as EventBody}
-use Rattle.model_files.proofs.Describing.{number_from_three}
-use Rattle.model_files.proofs.Forming.{file_formed}
+use Rattle.model_files.{specs.declared.body.Body.TheVariants.File as FileBody, specs.declared.body.Body.TheVariants.Pipe as PipeBody, specs.declared.body.Body.TheVariants.EventFd as EventBody, proofs.Describing.number_from_three}
 
 pub setup_moved : (w : WorldState) (fd n : ℕ) (d : DescriptorState) (p : ℕ) → descriptor_of w fd ≡ Some d → d.position ≡ Some p → OneSetup w (world_at fd n w)
 setup_moved w fd n d p h e = setup_at fd n w (λ x k. let same : x ≡ d = (let g = (number_from_three w fd d h).1 in let both = sym k ∙ g in cc) in ap is_some (ap (λ (y : DescriptorState). y.position) same ∙ e))

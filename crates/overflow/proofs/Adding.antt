@@ -1,6 +1,5 @@
 -- Facts about adding completions to the backlog: their places are first recorded as absent.
-use Rattle.overflow.proofs.Common.{◌≡◌, ℕ, refl, sym, ◌∙◌, ap, List, [], ◌∷◌, ◌++◌, length, take, append_assoc, length-append, ◌+◌, ◌≤◌, ◌<◌, ◌⊎◌, inl, inr, get_or, arith, Some, None, option_map, slice_get, common_steps, gets, slice_get_past, slice_get_cases, length-take-le, Cqe, Place, Backlog, Completed, named, Keeps, Noted, keeps_then, keeps_noted, noted_keeps, BacklogState, backlog_owns, backlog_seen, backlog_with}
-use Rattle.places.specs.Notes.{Notes}
+use Rattle.overflow.proofs.Common.{◌≡◌, ℕ, refl, sym, ◌∙◌, ap, List, [], ◌∷◌, ◌++◌, length, take, append_assoc, length-append, ◌+◌, ◌≤◌, ◌<◌, ◌⊎◌, inl, inr, get_or, arith, Some, None, option_map, slice_get, common_steps, gets, slice_get_past, slice_get_cases, length-take-le, Cqe, Place, Backlog, Completed, named, Keeps, Noted, keeps_then, keeps_noted, noted_keeps, BacklogState, backlog_owns, backlog_seen, backlog_with, Notes}
 use Rattle.overflow.proofs.Seen.{seen_more}
 
 -- The invariant of the loop: the first i places after the end are recorded as absent. The same

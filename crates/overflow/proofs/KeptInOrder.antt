@@ -1,6 +1,5 @@
 -- Facts about posting and flushing, from the definitions only.
-use Rattle.overflow.proofs.Common.{◌≡◌, ℕ, true, refl, sym, List, [], ◌++◌, length, take, drop, append_assoc, length-append, length-drop, drop-drop, ◌+◌, ◌≤◌, min, arith, not, ◌==◌, append-nil, take-append-drop, drop-append-le, length-take-le, Cqe, CqOverflow, ComWords, waiting, com_list, has_flag, BacklogState, kept, is_clear, free_slots, Delivery, DeliveryFormed, fits, backlog_with, backlog_flushed, all_posted, flushed, common_steps}
-use Rattle.ring_words.proofs.Laws.{com_length}
+use Rattle.overflow.proofs.Common.{◌≡◌, ℕ, true, refl, sym, List, [], ◌++◌, length, take, drop, append_assoc, length-append, length-drop, drop-drop, ◌+◌, ◌≤◌, min, arith, not, ◌==◌, append-nil, take-append-drop, drop-append-le, length-take-le, Cqe, CqOverflow, ComWords, waiting, com_list, has_flag, BacklogState, kept, is_clear, free_slots, Delivery, DeliveryFormed, fits, backlog_with, backlog_flushed, all_posted, flushed, common_steps, com_length}
 use Rattle.ring_words.proofs.Flags.{flag_set}
 use Rattle.overflow.proofs.Posting.{posted_slots, posted_well, posted_waits, posted_list}
 

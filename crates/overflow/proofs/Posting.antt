@@ -1,7 +1,5 @@
 -- Facts about posting completions into the ring in order.
-use Rattle.overflow.proofs.Common.{◌≡◌, ℕ, refl, sym, ◌∙◌, ap, List, [], ◌∷◌, ◌++◌, length, take, append_assoc, length-set, ◌+◌, ◌%◌, ◌≤◌, ◌<◌, arith, None, Some, slice_get, common_steps, gets, append-nil, length-take-le, Cqe, Place, named, Keeps, keeps_then, ComWords, ComFormed, waiting, com_list, com_owns, com_seen, posted_one, posted_in_order}
-use Rattle.places.specs.Notes.{Notes}
-use Rattle.ring_words.proofs.Laws.{com_posted, formed_posted}
+use Rattle.overflow.proofs.Common.{◌≡◌, ℕ, refl, sym, ◌∙◌, ap, List, [], ◌∷◌, ◌++◌, length, take, append_assoc, length-set, ◌+◌, ◌%◌, ◌≤◌, ◌<◌, arith, None, Some, slice_get, common_steps, gets, append-nil, length-take-le, Cqe, Place, named, Keeps, keeps_then, ComWords, ComFormed, waiting, com_list, com_owns, com_seen, posted_one, posted_in_order, Notes, com_posted, formed_posted}
 use Rattle.ring_words.proofs.Order.{waiting_more}
 
 -- Posting one more completion.

@@ -1,7 +1,6 @@
 -- Assigning the values of one backlog to another of the same length.
-use Rattle.overflow.proofs.Common.{◌≡◌, length, arith, Some, None, Place, Backlog, BacklogFront, Completed, BacklogState, BacklogFormed, backlog_seen, backlog_can_put}
+use Rattle.overflow.proofs.Common.{◌≡◌, length, arith, Some, None, Place, Backlog, BacklogFront, Completed, BacklogState, BacklogFormed, backlog_seen, backlog_can_put, same_list}
 use Rattle.places.specs.declared.value.Value.{Value}
-use Rattle.places.proofs.ListLemmas.{same_list}
 use Rattle.ring_words.proofs.Restoring.{none_here, some_here, same_through}
 
 -- Each value can be assigned.

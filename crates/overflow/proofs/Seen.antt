@@ -1,7 +1,6 @@
 -- The view of a changed backlog.
-use Rattle.overflow.proofs.Common.{◌≡◌, ℕ, [], ◌∷◌, ◌++◌, take, length, ◌<◌, ◌+◌, arith, Some, None, slice_set, Cqe, Place, Backlog, BacklogFront, Number, Completed, put_at, BacklogState, backlog_seen}
+use Rattle.overflow.proofs.Common.{◌≡◌, ℕ, [], ◌∷◌, ◌++◌, take, length, ◌<◌, ◌+◌, arith, Some, None, slice_set, Cqe, Place, Backlog, BacklogFront, Number, Completed, put_at, BacklogState, backlog_seen, slice_get-set, slice_get-push, slice_get-take}
 use Rattle.places.specs.Places.{same_place}
-use Rattle.places.proofs.ListLemmas.{slice_get-set, slice_get-push, slice_get-take}
 
 -- After the front is set.
 pub seen_front : (b : BacklogState) (n : ℕ) (q : Place) → backlog_seen (record b { front = n }) q ≡ put_at (backlog_seen b) BacklogFront (Some (Number n)) q

@@ -1,10 +1,7 @@
 -- Facts about the flags word.
-use Rattle.ring_words.proofs.Common.{◌≡◌, ℕ, zero, suc, Bool, true, false, refl, sym, ◌∙◌, ap, ◌*◌, ◌%◌, ◌-◌, ◌<◌, ◌^◌, ◌⊎◌, inl, inr, arith, not, ◌==◌, or_lt, and_le_l, and_or_apart, and_assoc, and_comm, and_mask, bit_at, bit_of, has_flag, with_flag}
-use Rattle.std.proofs.lemmas.Nat.Bits.{bit_at-lt, and_pow}
-use Rattle.std.specs.Int.Bits.{bit_and, bit_or, or_add_and}
-use Rattle.ring_words.specs.declared.flag.RingFlag.{RingFlag}
+use Rattle.ring_words.proofs.Common.{◌≡◌, ℕ, zero, suc, Bool, true, false, refl, sym, ◌∙◌, ap, ◌*◌, ◌%◌, ◌-◌, ◌<◌, ◌^◌, ◌⊎◌, inl, inr, arith, not, ◌==◌, or_lt, and_le_l, and_or_apart, and_assoc, and_comm, and_mask, bit_at, bit_of, has_flag, with_flag, RingFlag}
+use Rattle.std.{proofs.lemmas.Nat.Bits.bit_at-lt, proofs.lemmas.Nat.Bits.and_pow, specs.Int.Bits.bit_and, specs.Int.Bits.bit_or, specs.Int.Bits.or_add_and, proofs.lemmas.Grind.common_steps}
 use Rattle.ring_words.specs.declared.flag.RingFlag.TheVariants.{NeedWakeup, CqOverflow}
-use Rattle.std.proofs.lemmas.Grind.{common_steps}
 
 -- The flags word still fits into 32 bits.
 pub with_flag_fits : (n : ℕ) (f : RingFlag) (on : Bool) → n < 2 ^ 32 → with_flag n f on < 2 ^ 32

@@ -1,14 +1,7 @@
 -- Facts about the lists of pending elements and the invariants of the rings.
-use Rattle.ring_words.proofs.Common.{◌≡◌, ℕ, zero, suc, Bool, sym, ◌∙◌, List, [], ◌∷◌, ◌++◌, length, ◌+◌, ◌%◌, ◌<◌, ◌≤◌, ◌^◌, arith, length-set, Some, slice_get, slice_set, mod_below, slice_get-set}
+use Rattle.ring_words.proofs.Common.{◌≡◌, ℕ, zero, suc, Bool, sym, ◌∙◌, List, [], ◌∷◌, ◌++◌, length, ◌+◌, ◌%◌, ◌<◌, ◌≤◌, ◌^◌, arith, length-set, Some, slice_get, slice_set, mod_below, slice_get-set, SubWords, ComWords, SubFormed, ComFormed, waiting, rounded, sub_list, com_list, sub_start, com_start, zero_entry, zero_completion, with_flag, Cqe, Sqe, RingFlag, length-replicate}
 use Rattle.std.proofs.Math.ListN.{replicate}
-use Rattle.std.proofs.lemmas.List.{length-replicate}
-use Rattle.entries.specs.declared.completion.Cqe.{Cqe}
-use Rattle.entries.specs.declared.entry.Sqe.{Sqe}
-use Rattle.ring_words.specs.declared.flag.RingFlag.{RingFlag}
-use Rattle.ring_words.specs.Rings.{SubWords, ComWords, SubFormed, ComFormed, waiting, rounded, sub_list, com_list, sub_start, com_start, zero_entry, zero_completion, with_flag}
-use Rattle.ring_words.proofs.Order.{list_back, items_length}
-use Rattle.ring_words.proofs.Sizes.{size_divides, rounded_size, size_some}
-use Rattle.ring_words.proofs.Flags.{with_flag_fits}
+use Rattle.ring_words.proofs.{Order.list_back, Order.items_length, Sizes.size_divides, Sizes.rounded_size, Sizes.size_some, Flags.with_flag_fits}
 
 -- The list is as long as head and tail say.
 pub sub_length : (w : SubWords) → SubFormed w → length (sub_list w) ≡ waiting w.head w.tail

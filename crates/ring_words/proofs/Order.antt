@@ -1,8 +1,6 @@
 -- A ring is a queue: writing at the tail appends to the list, and reading at the head takes from
 -- its front.
-use Rattle.ring_words.proofs.Common.{◌≡◌, ◌≢◌, ℕ, zero, suc, Bool, true, false, cond, refl, sym, ◌∙◌, ap, List, [], ◌∷◌, ◌++◌, length, drop, get_or, ◌+◌, ◌-◌, ◌%◌, ◌<◌, ◌≤◌, ◌^◌, ◌⊎◌, inl, inr, arith, length-set, rules, Some, None, option_to_list, slice_get, slice_set, ◌==◌, add-mod, mod-mod_of_dvd, mod-eq_of_lt, mod-eq-sub-mod, mod_below, slice_get_cases, ◌∣◌, slice_get-set, slice_get-set_same, waiting, items_from}
-use Rattle.std.proofs.lemmas.Bool.{eqb-true}
-use Rattle.std.proofs.lemmas.Bool.Decides.{leb_tells}
+use Rattle.ring_words.proofs.Common.{◌≡◌, ◌≢◌, ℕ, zero, suc, Bool, true, false, cond, refl, sym, ◌∙◌, ap, List, [], ◌∷◌, ◌++◌, length, drop, get_or, ◌+◌, ◌-◌, ◌%◌, ◌<◌, ◌≤◌, ◌^◌, ◌⊎◌, inl, inr, arith, length-set, rules, Some, None, option_to_list, slice_get, slice_set, ◌==◌, add-mod, mod-mod_of_dvd, mod-eq_of_lt, mod-eq-sub-mod, mod_below, slice_get_cases, ◌∣◌, slice_get-set, slice_get-set_same, waiting, items_from, eqb-true, leb_tells}
 
 pub waiting_less : (h t : ℕ) → h < 2 ^ 32 → t < 2 ^ 32 → 0 < waiting h t → waiting ((h + 1) % 2 ^ 32) t + 1 ≡ waiting h t
 waiting_less h t a b c = omega arith

@@ -1,7 +1,5 @@
 -- Assigning the values of one ring to another of the same size.
-use Rattle.ring_words.proofs.Common.{◌≡◌, ℕ, List, length, ◌<◌, arith, Option, Some, None, option_map, slice_get, slice_get_within, slice_get_past, Number, Entry, Completed, same_list, slice_get_none, SubWords, ComWords, SubFormed, ComFormed, sub_seen, com_seen, sub_can_put, com_can_put}
-use Rattle.places.specs.declared.place.Place.{Place}
-use Rattle.places.specs.declared.place.Place.TheVariants.{SubmissionHead, SubmissionTail, SubmissionFlags, SubmissionDropped, CompletionHead, CompletionTail, Array, Slot, Completion}
+use Rattle.ring_words.proofs.Common.{◌≡◌, ℕ, List, length, ◌<◌, arith, Option, Some, None, option_map, slice_get, slice_get_within, slice_get_past, Number, Entry, Completed, same_list, slice_get_none, SubWords, ComWords, SubFormed, ComFormed, sub_seen, com_seen, sub_can_put, com_can_put, Place, SubmissionHead, SubmissionTail, SubmissionFlags, SubmissionDropped, CompletionHead, CompletionTail, Array, Slot, Completion}
 use Rattle.places.specs.declared.value.Value.{Value}
 
 -- Lists of the same length have elements at the same indexes.

@@ -1,11 +1,6 @@
 -- The view of a changed ring.
-use Rattle.ring_words.proofs.Common.{◌≡◌, ℕ, length, ◌<◌, arith, Some, slice_set, Number, Entry, Completed, field_set, SubWords, ComWords, sub_seen, com_seen}
-use Rattle.entries.specs.declared.completion.Cqe.{Cqe}
-use Rattle.entries.specs.declared.entry.Sqe.{Sqe}
-use Rattle.places.specs.declared.place.Place.{Place}
-use Rattle.places.specs.declared.place.Place.TheVariants.{SubmissionHead, SubmissionTail, SubmissionFlags, SubmissionDropped, CompletionHead, CompletionTail, Array, Slot, Completion}
-use Rattle.places.specs.Places.{same_place}
-use Rattle.places.specs.View.{put_at}
+use Rattle.ring_words.proofs.Common.{◌≡◌, ℕ, length, ◌<◌, arith, Some, slice_set, Number, Entry, Completed, field_set, SubWords, ComWords, sub_seen, com_seen, Cqe, Sqe, Place, SubmissionHead, SubmissionTail, SubmissionFlags, SubmissionDropped, CompletionHead, CompletionTail, Array, Slot, Completion}
+use Rattle.places.specs.{Places.same_place, View.put_at}
 
 pub com_seen_head : (w : ComWords) (n : ℕ) (q : Place) → com_seen (record w { head = n }) q ≡ put_at (com_seen w) CompletionHead (Some (Number n)) q
 unfolding same_place

@@ -1,11 +1,6 @@
 -- Facts about the sizes of rings.
-use Rattle.ring_words.proofs.Common.{length, slice_index_or, ◌∙◌, ◌-◌, ◌++◌, ◌≡◌, ◌*◌, ℕ, zero, suc, Bool, true, false, cond, refl, sym, ap, List, [], ◌∷◌, ◌+◌, ◌/◌, ◌<◌, ◌≤◌, ◌^◌, ◌⊎◌, inl, inr, nat_lt, subst, arith, pow_mono, pow-succ', pow_pos, ◌∣◌, IsNextPowerOfTwo}
-use Rattle.std.proofs.Common.{replicate}
-use Rattle.std.proofs.lemmas.Bool.{ltb-true, ltb-false}
-use Rattle.std.proofs.Math.Dec.{leb}
-use Rattle.std.proofs.lemmas.Bool.Decides.{leb_tells}
-use Rattle.std.proofs.lemmas.Nat.Gcd.{dvd_of_mod-eq-zero}
-use Rattle.ring_words.specs.Rings.{IsSize, sizes, first_not_below, rounded}
+use Rattle.ring_words.proofs.Common.{length, slice_index_or, ◌∙◌, ◌-◌, ◌++◌, ◌≡◌, ◌*◌, ℕ, zero, suc, Bool, true, false, cond, refl, sym, ap, List, [], ◌∷◌, ◌+◌, ◌/◌, ◌<◌, ◌≤◌, ◌^◌, ◌⊎◌, inl, inr, nat_lt, subst, arith, pow_mono, pow-succ', pow_pos, ◌∣◌, IsNextPowerOfTwo, IsSize, sizes, first_not_below, rounded, replicate, ltb-true, ltb-false, leb_tells}
+use Rattle.std.proofs.{Math.Dec.leb, lemmas.Nat.Gcd.dvd_of_mod-eq-zero}
 
 -- The powers of two from 2 ^ k to 2 ^ (k + j).
 powers : ℕ → ℕ → List ℕ

@@ -1,11 +1,6 @@
 -- The rules of the cascade, one after the other.
-use Rattle.timeouts_cancel.proofs.Common.{◌≡◌, ℕ, sym, ◌∙◌, ap, subst, List, [], length, ◌+◌, ◌≤◌, arith, Row, Ending, result_in, Direct, joined, with_met, counted_in, fall_of, guarding, severed_endings, result_by}
-use Rattle.timeouts_cancel.specs.Timers.{met_rows}
-use Rattle.timeouts_cancel.proofs.Listed.{direct_endings, few_endings, joined_listed, joined_none}
-use Rattle.timeouts_cancel.proofs.Meeting.{met_result}
-use Rattle.timeouts_cancel.proofs.Tallying.{few_counted}
-use Rattle.timeouts_cancel.proofs.Targets.{guard_result}
-use Rattle.timeouts_cancel.proofs.Whole.{ms}
+use Rattle.timeouts_cancel.proofs.Common.{◌≡◌, ℕ, sym, ◌∙◌, ap, subst, List, [], length, ◌+◌, ◌≤◌, arith, Row, Ending, result_in, Direct, joined, with_met, counted_in, fall_of, guarding, severed_endings, result_by, met_rows}
+use Rattle.timeouts_cancel.proofs.{Listed.direct_endings, Listed.few_endings, Listed.joined_listed, Listed.joined_none, Meeting.met_result, Tallying.few_counted, Targets.guard_result, Whole.ms}
 
 -- ---- Each rule's list has unfinished rows, by ascending number
 

@@ -1,8 +1,7 @@
 -- Two searches for a match in turn: upwards through the issued requests, and downwards through those
 -- with a hash.
-use Rattle.timeouts_cancel.proofs.Common.{◌≡◌, ℕ, zero, suc, Bool, true, false, cond, refl, sym, ◌∙◌, ap, subst, List, [], ◌∷◌, length, ◌+◌, ◌-◌, ◌<◌, ◌≤◌, arith, Option, Some, None, IfSome, slice_get, slice_get_within, Row, is_match, user_of, FoundPast, IsMatch, NoMatch}
+use Rattle.timeouts_cancel.proofs.Common.{◌≡◌, ℕ, zero, suc, Bool, true, false, cond, refl, sym, ◌∙◌, ap, subst, List, [], ◌∷◌, length, ◌+◌, ◌-◌, ◌<◌, ◌≤◌, arith, Option, Some, None, IfSome, slice_get, slice_get_within, Row, is_match, user_of, FoundPast, IsMatch, NoMatch, Key}
 use Rattle.links_drains.specs.Finders.{NoUser}
-use Rattle.timeouts_cancel.specs.declared.matching.Key.{Key}
 
 -- ---- Requests that can't match
 

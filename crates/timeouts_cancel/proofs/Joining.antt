@@ -1,7 +1,6 @@
 -- Merging two lists of completions, one by one.
 use Rattle.timeouts_cancel.proofs.Common.{◌≡◌, ℕ, ℤ, sym, ◌∙◌, List, [], ◌∷◌, ◌++◌, length, ◌+◌, ◌<◌, ◌≤◌, arith, Option, Some, None, slice_get, Row, Ending, result_in, or_else, Direct, result_of, joined, Splits, IsLeast, Merged}
-use Rattle.timeouts_cancel.proofs.Listed.{splits_to, splits_out, splits_past, upto_all}
-use Rattle.timeouts_cancel.proofs.Walking.{result_at, upto_next}
+use Rattle.timeouts_cancel.proofs.{Listed.splits_to, Listed.splits_out, Listed.splits_past, Listed.upto_all, Walking.result_at, Walking.upto_next}
 
 -- The result in the first list, or else in the second.
 abbrev pub both_of : List Ending → List Ending → ℕ → Row → Option ℤ

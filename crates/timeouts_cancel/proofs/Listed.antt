@@ -1,8 +1,6 @@
 -- Lists of completions: their length, and where a row number splits them.
 use Rattle.timeouts_cancel.proofs.Common.{◌≡◌, ℕ, ℤ, Bool, true, cond, refl, sym, ◌∙◌, ap, List, [], ◌∷◌, length, ◌+◌, ◌<◌, ◌≤◌, arith, Option, Some, None, slice_get, ◌==◌, take_all, slice_get_within, Row, is_unfinished, Ending, result_in, endings, endings_from, or_else, Direct, result_of, alike, ends_at, rising, joined, Rises, Splits, upto}
-use Rattle.timeouts_cancel.proofs.Again.{listed_row}
-use Rattle.timeouts_cancel.proofs.Sweeping.{none_within}
-use Rattle.timeouts_cancel.proofs.Walking.{split, undirected, upto_gap}
+use Rattle.timeouts_cancel.proofs.{Again.listed_row, Sweeping.none_within, Walking.split, Walking.undirected, Walking.upto_gap}
 use Rattle.std.proofs.lemmas.Grind.{common_steps}
 
 -- ---- What a function lists

@@ -1,15 +1,9 @@
 -- Finding matches, one by one.
-use Rattle.timeouts_cancel.proofs.Common.{◌≡◌, ℕ, Bool, false, not, cond, sym, ◌∙◌, ap, List, [], ◌∷◌, ◌++◌, take, ◌+◌, arith, filter, enumerate_from, and_left, length-append, map-append, Row, is_match, is_waiting_match, matches_of, found_by, found_first, waiting_by, IsNextMatch, NoMatchFrom, Passed}
-use Rattle.std.specs.Prelude.{Some, map, option_map, slice_get, length, ◌&&◌}
-use Rattle.std.proofs.lemmas.List.Elements.{filter-append}
+use Rattle.timeouts_cancel.proofs.Common.{◌≡◌, ℕ, Bool, false, not, cond, sym, ◌∙◌, ap, List, [], ◌∷◌, ◌++◌, take, ◌+◌, arith, filter, enumerate_from, and_left, length-append, map-append, Row, is_match, is_waiting_match, matches_of, found_by, found_first, waiting_by, IsNextMatch, NoMatchFrom, Passed, take_more, Key}
+use Rattle.std.{specs.Prelude.Some, specs.Prelude.map, specs.Prelude.option_map, specs.Prelude.slice_get, specs.Prelude.length, specs.Prelude.◌&&◌, proofs.lemmas.List.Elements.filter-append}
 use Rattle.model_files.specs.Worlds.{WorldState}
 use Rattle.opcodes.specs.Outcomes.{is_running}
-use Rattle.links_drains.specs.Units.{IsNextIssued}
-use Rattle.links_drains.proofs.Batching.{take_more}
-use Rattle.links_drains.proofs.Chains.{enumerated}
-use Rattle.links_drains.proofs.Filters.{filter_skip, first_numbered, none_numbered}
-use Rattle.links_drains.proofs.RestOfUnit.{none_after, numbered}
-use Rattle.timeouts_cancel.specs.declared.matching.Key.{Key}
+use Rattle.links_drains.{specs.Units.IsNextIssued, proofs.Chains.enumerated, proofs.Filters.filter_skip, proofs.Filters.first_numbered, proofs.Filters.none_numbered, proofs.RestOfUnit.none_after, proofs.RestOfUnit.numbered}
 use Rattle.timeouts_cancel.specs.declared.matching.Found.TheVariants.{Absent}
 
 -- The tests of a numbered row.

@@ -1,10 +1,7 @@
 -- Finding the TIMEOUTs whose count is reached, one by one.
-use Rattle.timeouts_cancel.proofs.Common.{◌≡◌, ℕ, ℤ, pos, true, false, refl, sym, ◌∙◌, List, [], ◌∷◌, ◌++◌, ◌+◌, arith, Option, Some, None, Row, Ending, given, result_of, is_met, upto}
-use Rattle.std.specs.Prelude.{Option, Some, None, is_some, IfNone}
+use Rattle.timeouts_cancel.proofs.Common.{◌≡◌, ℕ, ℤ, pos, true, false, refl, sym, ◌∙◌, List, [], ◌∷◌, ◌++◌, ◌+◌, arith, Option, Some, None, Row, Ending, given, result_of, is_met, upto, is_some, IfNone, met_rows}
 use Rattle.links_drains.specs.Counts.{IsNextMet, NoneMetFrom}
-use Rattle.timeouts_cancel.specs.Timers.{met_rows}
-use Rattle.timeouts_cancel.proofs.Listed.{upto_all}
-use Rattle.timeouts_cancel.proofs.Walking.{upto_next}
+use Rattle.timeouts_cancel.proofs.{Listed.upto_all, Walking.upto_next}
 
 -- ---- From one such TIMEOUT to the next
 

@@ -1,9 +1,6 @@
 -- Finding the linked timeouts of listed requests, one by one.
 use Rattle.timeouts_cancel.proofs.Common.{◌≡◌, ℕ, ℤ, Bool, true, false, cond, refl, ◌∙◌, ap, List, ◌++◌, length, ◌+◌, ◌<◌, ◌≤◌, ◌⊎◌, arith, Option, Some, None, slice_get, option_map_or, append-nil, slice_get_within, Row, Ending, paired, given, ecanceled, Direct, is_guard, is_unfinished, result_of, guards_listed, GuardsAreLinked, guarding, guards_row, Guarded, upto}
-use Rattle.timeouts_cancel.proofs.Again.{any_at, any_found}
-use Rattle.timeouts_cancel.proofs.Listed.{upto_all}
-use Rattle.timeouts_cancel.proofs.Sweeping.{same_ending}
-use Rattle.timeouts_cancel.proofs.Walking.{of_one, split, take_past, upto_more, upto_to}
+use Rattle.timeouts_cancel.proofs.{Again.any_at, Again.any_found, Listed.upto_all, Sweeping.same_ending, Walking.of_one, Walking.split, Walking.take_past, Walking.upto_more, Walking.upto_to}
 
 -- The result of a linked timeout.
 abbrev pub guard_result : List Ending → ℕ → Row → Option ℤ

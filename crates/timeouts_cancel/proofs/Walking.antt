@@ -1,7 +1,6 @@
 -- Processing the direct completions, and the requests that they sever, in one pass.
 use Rattle.timeouts_cancel.proofs.Common.{◌≡◌, ℕ, ℤ, zero, suc, Bool, true, false, cond, refl, sym, ◌∙◌, ap, subst, List, [], ◌∷◌, ◌++◌, take, ◌+◌, ◌-◌, ◌<◌, ◌≤◌, ◌⊎◌, arith, Option, Some, None, slice_get, ◌==◌, ◌&&◌, cons_option, eqb-true, append-nil, Row, is_soft_linked, is_unfinished, Ending, result_in, paired, endings, given, ecanceled, Direct, endings_from, is_severed, is_bad, result_of, ends_at, Severs, Walked, own_endings, result_by, upto}
-use Rattle.timeouts_cancel.proofs.Again.{any_found, result_there, listed_row}
-use Rattle.timeouts_cancel.proofs.Severing.{severs_is, severed_by}
+use Rattle.timeouts_cancel.proofs.{Again.any_found, Again.result_there, Again.listed_row, Severing.severs_is, Severing.severed_by}
 
 -- ---- The completions among the first rows
 

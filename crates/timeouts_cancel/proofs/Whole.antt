@@ -1,9 +1,6 @@
 -- The cascade is complete: applying its rules again adds nothing.
 use Rattle.timeouts_cancel.proofs.Common.{◌≡◌, ℕ, ℤ, pos, Bool, true, false, refl, sym, ◌∙◌, ap, List, [], ◌∷◌, ◌+◌, ◌<◌, arith, Option, Some, None, slice_get, option_map_or, eqb-true, eq-eqb, Row, is_unfinished, Ending, result_in, given, or_else, is_listed, ecanceled, is_guard, joined, with_severed, with_met, with_guards, is_severed, guards_listed, is_met, counted_in, fall_of, severs_by, GuardsFormed, IsWhole, Severs, own_endings, severed_endings, ends_at, rising}
-use Rattle.timeouts_cancel.proofs.Again.{any_at, any_found, result_there, listed_row, or_else_none, given_none, given_is, joined_nothing}
-use Rattle.timeouts_cancel.proofs.Walking.{result_at}
-use Rattle.timeouts_cancel.proofs.Tallying.{joined_counts, guard_counts, met_counts}
-use Rattle.timeouts_cancel.proofs.Severing.{both, guard_not_bad, timeout_not_bad, severs_is, severed_by, severs_then}
+use Rattle.timeouts_cancel.proofs.{Again.any_at, Again.any_found, Again.result_there, Again.listed_row, Again.or_else_none, Again.given_none, Again.given_is, Again.joined_nothing, Walking.result_at, Tallying.joined_counts, Tallying.guard_counts, Tallying.met_counts, Severing.both, Severing.guard_not_bad, Severing.timeout_not_bad, Severing.severs_is, Severing.severed_by, Severing.severs_then}
 
 -- ---- The lists, one rule after the other
 

@@ -1,10 +1,7 @@
 use Rattle.std.proofs.Common.{◌≡◌, ◌∙◌, ◌+◌, ◌-◌, ◌++◌, ◌∷◌, [], Some, sym, ap, drop, w32, FitsSigned, rules, arith}
-use Rattle.std.proofs.lemmas.Int.{to_z-of_z}
-use Rattle.links_drains.proofs.Common.{append-nil, take_all, length-drop, slice_get_past, slice_get_within, option_and_then, Option, ℤ, direct_result, endings_from, error_at}
-use Rattle.links_drains.proofs.Chains.{chain_before}
-use Rattle.links_drains.proofs.FailingRows.{many, row_in, ends_more, direct_none}
+use Rattle.links_drains.proofs.Common.{append-nil, take_all, length-drop, slice_get_past, slice_get_within, option_and_then, Option, ℤ, direct_result, endings_from, error_at, to_z-of_z}
+use Rattle.links_drains.proofs.{Chains.chain_before, FailingRows.many, FailingRows.row_in, FailingRows.ends_more, FailingRows.direct_none, failing.direct_ends.Goals.in-Some+in_ok-push, failing.direct_ends.Goals.in_default}
 use Rattle.links_drains.proofs.failing.direct_ends.Goals as goal
-use Rattle.links_drains.proofs.failing.direct_ends.Goals.{in-Some+in_ok-push, in_default}
 
 pub returns-then-is_empty : goal.returns-then-is_empty
 returns-then-is_empty c = λ w es o.

@@ -1,8 +1,6 @@
 use Rattle.links_drains.proofs.Common.{◌≡◌, ◌∙◌, ◌+◌, ◌-◌, ◌<◌, sym, ap, subst, length, List, Bool, arith, is_some, error_at}
-use Rattle.links_drains.proofs.Chains.{chain_before}
-use Rattle.links_drains.proofs.FailingRows.{FailingTo, many, row_in, failing_none, failing_all, failing_on, failing_at}
+use Rattle.links_drains.proofs.{Chains.chain_before, FailingRows.FailingTo, FailingRows.many, FailingRows.row_in, FailingRows.failing_none, FailingRows.failing_all, FailingRows.failing_on, FailingRows.failing_at, failing.failing_chains.Goals.then-is_some, failing.failing_chains.Goals.else-is_some}
 use Rattle.links_drains.proofs.failing.failing_chains.Goals as goal
-use Rattle.links_drains.proofs.failing.failing_chains.Goals.{then-is_some, else-is_some}
 
 pub loop-i-init : goal.loop-i-init
 loop-i-init c = λ w es o.

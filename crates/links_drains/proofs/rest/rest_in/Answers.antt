@@ -1,7 +1,6 @@
 use Rattle.links_drains.proofs.Common.{◌∙◌, ◌++◌, ◌∷◌, [], refl, sym, ap, length, arith, true, false, append-nil, slice_get_read}
-use Rattle.links_drains.proofs.RestOfUnit.{rest_start, rest_on, rest_past, rest_left, rest_none}
+use Rattle.links_drains.proofs.{RestOfUnit.rest_start, RestOfUnit.rest_on, RestOfUnit.rest_past, RestOfUnit.rest_left, RestOfUnit.rest_none, rest.rest_in.Goals.then-is_unfinished+in_ok-push, rest.rest_in.Goals.else-is_unfinished}
 use Rattle.links_drains.proofs.rest.rest_in.Goals as goal
-use Rattle.links_drains.proofs.rest.rest_in.Goals.{then-is_unfinished+in_ok-push, else-is_unfinished}
 
 pub returns-then-r-len : goal.returns-then-r-len
 returns-then-r-len c = c.new-rest.ensures.items ∙ rest_none c.args.rows.now c.args.r (omega arith)

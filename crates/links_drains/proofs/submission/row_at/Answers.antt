@@ -1,5 +1,4 @@
-use Rattle.std.specs.Result.{result_err}
-use Rattle.links_drains.proofs.Common.{◌∙◌, ap, get_or_from_slice_get}
+use Rattle.links_drains.proofs.Common.{◌∙◌, ap, get_or_from_slice_get, result_err}
 use Rattle.links_drains.proofs.Batching.{row_is_row_of}
 use Rattle.links_drains.proofs.submission.row_at.Goals as goal
 

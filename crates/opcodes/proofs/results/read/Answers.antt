@@ -1,8 +1,5 @@
-use Rattle.opcodes.proofs.Common.{◌≡◌, refl, sym, ◌∙◌, ap, ◌+◌, ◌≤◌, arith, rules, Some, Pipe, stock_of, held_descriptor, Read}
-use Rattle.opcodes.specs.Outcomes.{count_in}
-use Rattle.opcodes.proofs.Deciding.{does, pipe_read_within}
-use Rattle.opcodes.proofs.Nothing.{taken_nothing}
-use Rattle.opcodes.proofs.Transferring.{gives_out}
+use Rattle.opcodes.proofs.Common.{◌≡◌, refl, sym, ◌∙◌, ap, ◌+◌, ◌≤◌, arith, rules, Some, Pipe, stock_of, held_descriptor, Read, count_in}
+use Rattle.opcodes.proofs.{Deciding.does, Deciding.pipe_read_within, Nothing.taken_nothing, Transferring.gives_out}
 use Rattle.opcodes.proofs.results.read.Goals as goal
 
 pub returns-in-Some-count-clause-effect : goal.returns-in-Some-count-clause-effect

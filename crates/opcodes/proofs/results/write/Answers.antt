@@ -1,8 +1,5 @@
-use Rattle.opcodes.proofs.Common.{◌≡◌, refl, sym, ◌∙◌, ap, ◌+◌, ◌≤◌, arith, rules, Some, File, Pipe, stock_of, held_descriptor, Write}
-use Rattle.opcodes.specs.Outcomes.{count_in}
-use Rattle.opcodes.proofs.Deciding.{descriptor_is, does, file_is, pipe_written_within}
-use Rattle.opcodes.proofs.Nothing.{bytes_written_nothing, put_nothing}
-use Rattle.opcodes.proofs.Transferring.{takes_in}
+use Rattle.opcodes.proofs.Common.{◌≡◌, refl, sym, ◌∙◌, ap, ◌+◌, ◌≤◌, arith, rules, Some, File, Pipe, stock_of, held_descriptor, Write, count_in}
+use Rattle.opcodes.proofs.{Deciding.descriptor_is, Deciding.does, Deciding.file_is, Deciding.pipe_written_within, Nothing.bytes_written_nothing, Nothing.put_nothing, Transferring.takes_in}
 use Rattle.opcodes.proofs.results.write.Goals as goal
 
 pub returns-in-Some-clause-effect : goal.returns-in-Some-clause-effect

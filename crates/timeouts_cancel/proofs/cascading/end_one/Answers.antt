@@ -1,7 +1,5 @@
 use Rattle.timeouts_cancel.proofs.Common.{◌≡◌, ◌∙◌, pos, true, false, sym, ap, subst, List, [], ◌∷◌, ◌++◌, ◌+◌, w32, FitsSigned, rules, slice_index_or, ◌&&◌, to_z-of_z, slice_get-get_or, is_soft_linked, Ending, is_bad, Walked, Sweeping}
-use Rattle.timeouts_cancel.proofs.Severing.{both}
-use Rattle.timeouts_cancel.proofs.Walking.{walked_direct}
-use Rattle.timeouts_cancel.proofs.Sweeping.{sweep_start}
+use Rattle.timeouts_cancel.proofs.{Severing.both, Walking.walked_direct, Sweeping.sweep_start}
 use Rattle.timeouts_cancel.proofs.cascading.end_one.Goals as goal
 
 pub sever-requires-clause-sweeping : goal.sever-requires-clause-sweeping

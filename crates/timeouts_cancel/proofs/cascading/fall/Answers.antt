@@ -1,6 +1,5 @@
 use Rattle.timeouts_cancel.proofs.Common.{◌≡◌, ◌∙◌, ◌+◌, ap, subst, arith, List, IfOk, Ending, Row, counted_in, guarding}
-use Rattle.timeouts_cancel.proofs.Whole.{ms}
-use Rattle.timeouts_cancel.proofs.Filters.{met_direct, joined_direct, guards_direct, severed_few, counted_few, met_so, cascade_so}
+use Rattle.timeouts_cancel.proofs.{Whole.ms, Filters.met_direct, Filters.joined_direct, Filters.guards_direct, Filters.severed_few, Filters.counted_few, Filters.met_so, Filters.cascade_so}
 use Rattle.timeouts_cancel.proofs.cascading.fall.Goals as goal
 
 pub count-requires : goal.count-requires

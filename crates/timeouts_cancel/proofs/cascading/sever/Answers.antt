@@ -1,9 +1,7 @@
 use Rattle.std.proofs.Common.{◌≡◌, ◌∙◌, ℕ, Some, None, refl, sym, ap, subst, cond, ◌++◌, ◌∷◌, [], List, ◌≤◌, arith, w32, FitsSigned, rules}
 use Rattle.timeouts_cancel.proofs.Common.{to_z-of_z, append-nil, Row, Ending, ecanceled, paired, Sweeping, SweepsOn}
-use Rattle.timeouts_cancel.proofs.Walking.{of_one}
-use Rattle.timeouts_cancel.proofs.Sweeping.{same_row, sweep_direct, sweep_other, sweep_end, others_later}
+use Rattle.timeouts_cancel.proofs.{Walking.of_one, Sweeping.same_row, Sweeping.sweep_direct, Sweeping.sweep_other, Sweeping.sweep_end, Sweeping.others_later, cascading.sever.Goals.in-Some+in_ok-push, cascading.sever.Goals.in_default+then-is_unfinished+in_ok-push-2, cascading.sever.Goals.in_default+else-is_unfinished}
 use Rattle.timeouts_cancel.proofs.cascading.sever.Goals as goal
-use Rattle.timeouts_cancel.proofs.cascading.sever.Goals.{in-Some+in_ok-push, in_default+then-is_unfinished+in_ok-push-2, in_default+else-is_unfinished}
 
 -- The invariant, restated for equal lists and indexes.
 sweeps_on : (rows : List Row) (direct : List Ending) (k i j : ℕ) (es fs : List Ending) (unit at : ℕ) → fs ≡ es → j ≡ i → at ≤ i → Sweeping rows direct k i es unit → SweepsOn rows direct k j fs unit at

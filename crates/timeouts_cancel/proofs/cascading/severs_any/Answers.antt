@@ -1,7 +1,5 @@
-use Rattle.timeouts_cancel.proofs.Common.{◌≡◌, ◌∙◌, pos, false, sym, ap, subst, take, take_all, ◌+◌, w32, FitsSigned, rules, slice_index_or, ◌&&◌, to_z-of_z, slice_get-get_or, is_soft_linked, Ending, is_bad, Walked}
-use Rattle.links_drains.proofs.Batching.{take_more}
-use Rattle.timeouts_cancel.proofs.Walking.{walked_direct}
-use Rattle.timeouts_cancel.proofs.Sweeping.{walked_all}
+use Rattle.timeouts_cancel.proofs.Common.{◌≡◌, ◌∙◌, pos, false, sym, ap, subst, take, take_all, ◌+◌, w32, FitsSigned, rules, slice_index_or, ◌&&◌, to_z-of_z, slice_get-get_or, is_soft_linked, Ending, is_bad, Walked, take_more}
+use Rattle.timeouts_cancel.proofs.{Walking.walked_direct, Sweeping.walked_all}
 use Rattle.timeouts_cancel.proofs.cascading.severs_any.Goals as goal
 
 pub loop-at-preserved : goal.loop-at-preserved

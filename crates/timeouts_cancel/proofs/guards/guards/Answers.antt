@@ -1,9 +1,7 @@
 use Rattle.std.proofs.Common.{◌≡◌, ◌∙◌, pos, Some, None, sym, ap, cond, ◌++◌, ◌+◌, slice_index_or}
 use Rattle.timeouts_cancel.proofs.Common.{slice_get, append-nil, slice_get-get_or, Ending, ecanceled, paired}
-use Rattle.timeouts_cancel.proofs.Targets.{guarded_all, guarded_next}
-use Rattle.timeouts_cancel.proofs.Walking.{of_one}
+use Rattle.timeouts_cancel.proofs.{Targets.guarded_all, Targets.guarded_next, Walking.of_one, guards.guards.Goals.then-is_guarded+in_ok-push, guards.guards.Goals.else-is_guarded}
 use Rattle.timeouts_cancel.proofs.guards.guards.Goals as goal
-use Rattle.timeouts_cancel.proofs.guards.guards.Goals.{then-is_guarded+in_ok-push, else-is_guarded}
 
 pub loop-at-preserved : goal.loop-at-preserved
 loop-at-preserved c =

@@ -1,5 +1,4 @@
-use Rattle.timeouts_cancel.proofs.Common.{[]}
-use Rattle.timeouts_cancel.specs.Guarding.{Guarded}
+use Rattle.timeouts_cancel.proofs.Common.{[], Guarded}
 use Rattle.timeouts_cancel.proofs.guards.guards_any.Given as goal
 
 abbrev pub invariant-loop-at : goal.invariant-loop-at

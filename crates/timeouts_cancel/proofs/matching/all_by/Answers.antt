@@ -1,7 +1,6 @@
 use Rattle.timeouts_cancel.proofs.Common.{◌∙◌, ◌++◌, ◌∷◌, [], sym, ap, true, false, append-nil}
-use Rattle.timeouts_cancel.proofs.MatchByMatch.{waiting_on}
+use Rattle.timeouts_cancel.proofs.{MatchByMatch.waiting_on, matching.all_by.Goals.then-not-is_running+in_ok-push, matching.all_by.Goals.else-not-is_running}
 use Rattle.timeouts_cancel.proofs.matching.all_by.Goals as goal
-use Rattle.timeouts_cancel.proofs.matching.all_by.Goals.{then-not-is_running+in_ok-push, else-not-is_running}
 
 pub loop-r-preserved : goal.loop-r-preserved
 loop-r-preserved c = elim c.if-not-is_running.branch [

@@ -1,6 +1,5 @@
 use Rattle.std.proofs.Common.{◌-◌, arith}
-use Rattle.timeouts_cancel.proofs.InTurn.{found_none, found_step, there}
-use Rattle.timeouts_cancel.proofs.MatchByMatch.{passed_none, passed_on}
+use Rattle.timeouts_cancel.proofs.{InTurn.found_none, InTurn.found_step, InTurn.there, MatchByMatch.passed_none, MatchByMatch.passed_on}
 use Rattle.timeouts_cancel.proofs.matching.next_with_user.Goals as goal
 
 pub loop-at-init : goal.loop-at-init

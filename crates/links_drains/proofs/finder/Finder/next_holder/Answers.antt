@@ -1,6 +1,5 @@
 use Rattle.links_drains.proofs.Common.{◌∙◌, refl, sym, length, arith, slice_get_read, slice_get_within, is_issued_row}
-use Rattle.links_drains.proofs.Finding.{joined_ranges, no_holder, holder_found, holder_passed, no_issued}
-use Rattle.links_drains.proofs.NextRows.{next_found, none_found}
+use Rattle.links_drains.proofs.{Finding.joined_ranges, Finding.no_holder, Finding.holder_found, Finding.holder_passed, Finding.no_issued, NextRows.next_found, NextRows.none_found}
 use Rattle.links_drains.proofs.finder.Finder.next_holder.Goals as goal
 
 pub loop-start-init : goal.loop-start-init

@@ -1,5 +1,4 @@
-use Rattle.std.proofs.Common.{◌≡◌, ◌<◌, ◌-◌, length, arith}
-use Rattle.links_drains.proofs.Common.{refl, Some, slice_get, slice_get_read}
+use Rattle.links_drains.proofs.Common.{refl, Some, slice_get, slice_get_read, ◌≡◌, ◌<◌, ◌-◌, length, arith}
 use Rattle.links_drains.proofs.Indexing.{flags_left, indexed_left, indexed_none_left}
 use Rattle.links_drains.proofs.index.Index.cut.Goals as goal
 

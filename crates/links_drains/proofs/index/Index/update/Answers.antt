@@ -1,6 +1,5 @@
 use Rattle.links_drains.proofs.Common.{◌≡◌, ◌∙◌, refl, sym, ap, subst, arith, get_or_from_slice_get, slice_get_within, Row, has_count, has_drain_flag, is_issued_row, is_open, IndexedBut}
-use Rattle.links_drains.proofs.Indexing.{barriers_kept, barriers_written, thresholds_written, tied, updated_index}
-use Rattle.links_drains.proofs.Units.{any_of_has}
+use Rattle.links_drains.proofs.{Indexing.barriers_kept, Indexing.barriers_written, Indexing.thresholds_written, Indexing.tied, Indexing.updated_index, Units.any_of_has}
 use Rattle.links_drains.proofs.index.Index.update.Goals as goal
 
 pub write_threshold-requires : goal.write_threshold-requires

@@ -1,8 +1,6 @@
-use Rattle.links_drains.proofs.Common.{◌≡◌, ◌∙◌, ◌+◌, ◌⊎◌, inl, inr, Bool, true, false, sym, ap, length, cond, arith, is_some, slice_get-get_or}
-use Rattle.std.proofs.Common.{below_more}
-use Rattle.links_drains.proofs.Batching.{all_added, all_taken, adding_on, count_taken, element_there, errors_taken, failure_taken, listed_on, next_continues, rows_on}
+use Rattle.links_drains.proofs.Common.{◌≡◌, ◌∙◌, ◌+◌, ◌⊎◌, inl, inr, Bool, true, false, sym, ap, length, cond, arith, is_some, slice_get-get_or, below_more}
+use Rattle.links_drains.proofs.{Batching.all_added, Batching.all_taken, Batching.adding_on, Batching.count_taken, Batching.element_there, Batching.errors_taken, Batching.failure_taken, Batching.listed_on, Batching.next_continues, Batching.rows_on, table.Table.add_rows.Goals.then-not-is_linked, table.Table.add_rows.Goals.else-not-is_linked}
 use Rattle.links_drains.proofs.table.Table.add_rows.Goals as goal
-use Rattle.links_drains.proofs.table.Table.add_rows.Goals.{then-not-is_linked, else-not-is_linked}
 
 -- Only with `submit_all` does the loop continue after an entry that fails.
 still : (fails submit_all : Bool) → ((fails ≡ true) × (submit_all ≡ true)) ⊎ (fails ≡ false) → submit_all ≡ false → fails ≡ false

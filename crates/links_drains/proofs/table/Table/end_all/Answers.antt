@@ -1,5 +1,4 @@
-use Rattle.links_drains.proofs.Common.{◌∙◌, ap, ℕ, ℤ, pos, slice_index_or, w32, FitsSigned, rules, arith, slice_get-get_or, Row, Ended, updated}
-use Rattle.std.proofs.lemmas.Int.{to_z-of_z}
+use Rattle.links_drains.proofs.Common.{◌∙◌, ap, ℕ, ℤ, pos, slice_index_or, w32, FitsSigned, rules, arith, slice_get-get_or, Row, Ended, updated, to_z-of_z}
 use Rattle.links_drains.proofs.EndingRows.{ending_on, ending_done}
 use Rattle.links_drains.proofs.table.Table.end_all.Goals as goal
 

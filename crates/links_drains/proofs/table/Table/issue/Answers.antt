@@ -1,7 +1,5 @@
 use Rattle.links_drains.proofs.Common.{refl, sym, ◌∙◌, updated_set, keeps_noted}
-use Rattle.links_drains.proofs.Fixed.{fixed_here}
-use Rattle.links_drains.proofs.Remaining.{stay_set}
-use Rattle.links_drains.proofs.Seen.{seen_row}
+use Rattle.links_drains.proofs.{Fixed.fixed_here, Remaining.stay_set, Seen.seen_row}
 use Rattle.links_drains.proofs.table.Table.issue.Goals as goal
 
 pub set-requires : goal.set-requires

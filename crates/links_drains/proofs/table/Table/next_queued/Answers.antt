@@ -1,5 +1,4 @@
-use Rattle.links_drains.proofs.Common.{sym, arith, slice_get_within}
-use Rattle.links_drains.specs.Queued.{is_queued_row}
+use Rattle.links_drains.proofs.Common.{sym, arith, slice_get_within, is_queued_row}
 use Rattle.links_drains.proofs.NextRows.{queued_found, next_is, none_queued, none_is}
 use Rattle.links_drains.proofs.table.Table.next_queued.Goals as goal
 

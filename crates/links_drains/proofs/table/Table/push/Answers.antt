@@ -1,9 +1,5 @@
-use Rattle.links_drains.proofs.Common.{◌≡◌, refl, sym, ap, length, arith, None, option_map, slice_get, slice_get_past, Requested, keeps_noted, keeps_unchanged, table_owns, table_seen}
-use Rattle.places.specs.declared.place.Place.TheVariants.{Request}
-use Rattle.links_drains.proofs.Indexing.{indexed_push}
-use Rattle.links_drains.proofs.RowsKept.{get-pushed}
-use Rattle.links_drains.proofs.Seen.{seen_push}
-use Rattle.links_drains.proofs.Tallying.{room, tallied_push}
+use Rattle.links_drains.proofs.Common.{◌≡◌, refl, sym, ap, length, arith, None, option_map, slice_get, slice_get_past, Requested, keeps_noted, keeps_unchanged, table_owns, table_seen, Request}
+use Rattle.links_drains.proofs.{Indexing.indexed_push, RowsKept.get-pushed, Seen.seen_push, Tallying.room, Tallying.tallied_push}
 use Rattle.links_drains.proofs.table.Table.push.Goals as goal
 
 pub count-requires : goal.count-requires

@@ -1,8 +1,5 @@
 use Rattle.links_drains.proofs.Common.{refl, length, arith, slice_get_read, slice_get-set_same}
-use Rattle.links_drains.proofs.Finding.{findable_set, place_at}
-use Rattle.links_drains.proofs.Fixed.{fixed_at, fixed_within, same_count, same_drain, same_unit}
-use Rattle.links_drains.proofs.Indexing.{flags_set, indexed_set}
-use Rattle.links_drains.proofs.Tallying.{room_less, counts_row, tallied_set}
+use Rattle.links_drains.proofs.{Finding.findable_set, Finding.place_at, Fixed.fixed_at, Fixed.fixed_within, Fixed.same_count, Fixed.same_drain, Fixed.same_unit, Indexing.flags_set, Indexing.indexed_set, Tallying.room_less, Tallying.counts_row, Tallying.tallied_set}
 use Rattle.links_drains.proofs.table.Table.set.Goals as goal
 
 pub index-requires : goal.index-requires

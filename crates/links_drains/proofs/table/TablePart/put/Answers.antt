@@ -1,6 +1,5 @@
 use Rattle.links_drains.proofs.Common.{◌≡◌, Some, None, Requested}
-use Rattle.links_drains.proofs.Fixed.{fixed_within, fixed_all}
-use Rattle.links_drains.proofs.Seen.{seen_row, seen_taken}
+use Rattle.links_drains.proofs.{Fixed.fixed_within, Fixed.fixed_all, Seen.seen_row, Seen.seen_taken}
 use Rattle.links_drains.proofs.table.TablePart.put.Goals as goal
 
 pub returns-in-Request-Some-Requested-clause-put :

@@ -1,5 +1,4 @@
-use Rattle.machine.proofs.Common.{◌≡◌, ◌<◌, ◌^◌, sym, subst, ◌∙◌, rules, None, WellFormed}
-use Rattle.scenario.specs.Setups.{setup_refusal}
+use Rattle.machine.proofs.Common.{◌≡◌, ◌<◌, ◌^◌, sym, subst, ◌∙◌, rules, None, WellFormed, setup_refusal}
 use Rattle.machine.proofs.StartLemmas.{formed_start}
 use Rattle.machine.proofs.state.State.new.Goals as goal
 

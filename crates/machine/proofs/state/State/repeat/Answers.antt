@@ -1,8 +1,5 @@
-use Rattle.machine.proofs.Common.{sym, subst, ◌∙◌, WellFormed}
-use Rattle.places.proofs.Closing.{exact_led}
-use Rattle.machine.proofs.Formed.{formed_after}
-use Rattle.machine.proofs.PuttingBack.{back_from_exact}
-use Rattle.machine.proofs.Linking.{back_from_keeps, none_named}
+use Rattle.machine.proofs.Common.{sym, subst, ◌∙◌, WellFormed, exact_led}
+use Rattle.machine.proofs.{Formed.formed_after, PuttingBack.back_from_exact, Linking.back_from_keeps, Linking.none_named}
 use Rattle.machine.proofs.state.State.repeat.Goals as goal
 
 pub invariant_of-self : goal.invariant_of-self

@@ -1,7 +1,5 @@
-use Rattle.machine.proofs.Common.{◌≡◌, ◌∙◌, ap, sym, subst, length, arith, Direct, on_all, on_found, ending_with}
-use Rattle.timeouts_cancel.specs.Matches.{waiting_by}
-use Rattle.machine.proofs.CancelLemmas.{direct_cancel, few_waiting, verdict_all, verdict_first, other_found}
-use Rattle.machine.proofs.GuardLemmas.{guards_linked}
+use Rattle.machine.proofs.Common.{◌≡◌, ◌∙◌, ap, sym, subst, length, arith, Direct, on_all, on_found, ending_with, waiting_by}
+use Rattle.machine.proofs.{CancelLemmas.direct_cancel, CancelLemmas.few_waiting, CancelLemmas.verdict_all, CancelLemmas.verdict_first, CancelLemmas.other_found, GuardLemmas.guards_linked}
 use Rattle.machine.proofs.whole.Machine.cancel.Goals as goal
 
 pub ending_with-requires : goal.ending_with-requires

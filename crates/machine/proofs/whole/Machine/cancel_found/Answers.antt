@@ -1,5 +1,4 @@
-use Rattle.machine.proofs.Common.{◌≡◌, sym, subst, OnOk, Direct, Ending, List}
-use Rattle.machine.specs.Steps.{cascaded}
+use Rattle.machine.proofs.Common.{◌≡◌, sym, subst, OnOk, Direct, Ending, List, cascaded}
 use Rattle.machine.proofs.CancelLemmas.{found_later}
 use Rattle.machine.proofs.whole.Machine.cancel_found.Goals as goal
 

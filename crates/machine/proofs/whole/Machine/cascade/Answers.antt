@@ -1,7 +1,5 @@
-use Rattle.machine.proofs.Common.{◌≡◌, ◌∙◌, ap, sym, subst, OnOk, arith, Direct, counted-le-length, Machine}
-use Rattle.machine.specs.Steps.{all_ended, cascaded}
-use Rattle.machine.proofs.CascadedRows.{direct_cascade}
-use Rattle.machine.proofs.FormedMachines.{room_for_endings}
+use Rattle.machine.proofs.Common.{◌≡◌, ◌∙◌, ap, sym, subst, OnOk, arith, Direct, counted-le-length, Machine, all_ended, cascaded}
+use Rattle.machine.proofs.{CascadedRows.direct_cascade, FormedMachines.room_for_endings}
 use Rattle.machine.proofs.whole.Machine.cascade.Goals as goal
 
 pub falls_alone-requires-clause-counted : goal.falls_alone-requires-clause-counted

@@ -1,10 +1,5 @@
-use Rattle.machine.proofs.Common.{sym, ◌∙◌, subst, is_held_by, WorldState, world_after, stays_after, Mostly}
-use Rattle.machine.proofs.CascadedRows.{direct_one}
-use Rattle.machine.proofs.FormedMachines.{mostly, mostly_world}
-use Rattle.machine.specs.Whole.{Grows}
-use Rattle.machine.proofs.Growing.{grows_then, grows_world}
-use Rattle.machine.proofs.PipeCounts.{puts_fit}
-use Rattle.machine.proofs.GuardLemmas.{guards_linked}
+use Rattle.machine.proofs.Common.{sym, ◌∙◌, subst, is_held_by, WorldState, world_after, stays_after, Mostly, Grows}
+use Rattle.machine.proofs.{CascadedRows.direct_one, FormedMachines.mostly, FormedMachines.mostly_world, Growing.grows_then, Growing.grows_world, PipeCounts.puts_fit, GuardLemmas.guards_linked}
 use Rattle.machine.proofs.whole.Machine.complete.Goals as goal
 
 pub carry_out-requires-clause-can : goal.carry_out-requires-clause-can

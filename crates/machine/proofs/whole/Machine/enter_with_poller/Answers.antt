@@ -1,6 +1,5 @@
 use Rattle.machine.proofs.Common.{◌∙◌, ap, sym, subst, WellFormed, Machine}
-use Rattle.machine.proofs.Formed.{formed_woken, woken_threads, shown_threads}
-use Rattle.machine.proofs.InstructionLemmas.{there_still, can_advance_still}
+use Rattle.machine.proofs.{Formed.formed_woken, Formed.woken_threads, Formed.shown_threads, InstructionLemmas.there_still, InstructionLemmas.can_advance_still}
 use Rattle.machine.proofs.whole.Machine.enter_with_poller.Goals as goal
 
 pub flush_on_getevents-requires : goal.flush_on_getevents-requires

@@ -1,7 +1,5 @@
 use Rattle.machine.proofs.Common.{◌∙◌, ap, sym, subst, WellFormed, Machine}
-use Rattle.machine.proofs.Formed.{formed_before, before_threads, submitted_threads}
-use Rattle.machine.proofs.InstructionLemmas.{there_still, can_advance_still}
-use Rattle.machine.proofs.EnterLemmas.{busy_answer}
+use Rattle.machine.proofs.{Formed.formed_before, Formed.before_threads, Formed.submitted_threads, InstructionLemmas.there_still, InstructionLemmas.can_advance_still, EnterLemmas.busy_answer}
 use Rattle.machine.proofs.whole.Machine.enter_without_poller.Goals as goal
 
 pub returns-then-not-is_empty-clause-ok : goal.returns-then-not-is_empty-clause-ok

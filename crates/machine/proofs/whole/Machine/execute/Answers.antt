@@ -1,7 +1,6 @@
 use Rattle.machine.proofs.Common.{OneSetup as OneWorldSetup, subst, length, ◌+◌, ◌≤◌, IsDone}
 use Rattle.model_files.proofs.Fixing as worlds
-use Rattle.machine.proofs.Growing.{grows_parts}
-use Rattle.machine.proofs.InstructionLemmas.{is_done, thread_there, can_advance}
+use Rattle.machine.proofs.{Growing.grows_parts, InstructionLemmas.is_done, InstructionLemmas.thread_there, InstructionLemmas.can_advance}
 use Rattle.machine.proofs.whole.Machine.execute.Goals as goal
 
 pub store-requires-clause-in_memory : goal.store-requires-clause-in_memory

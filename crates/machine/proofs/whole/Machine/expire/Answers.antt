@@ -1,7 +1,5 @@
 use Rattle.machine.proofs.Common.{◌≡◌, sym, ◌∙◌, ap, Row, Issued}
-use Rattle.machine.proofs.EnterLemmas.{expired_row}
-use Rattle.machine.proofs.ExpiryLemmas.{direct_pair}
-use Rattle.machine.proofs.GuardLemmas.{same_row, guards_linked}
+use Rattle.machine.proofs.{EnterLemmas.expired_row, ExpiryLemmas.direct_pair, GuardLemmas.same_row, GuardLemmas.guards_linked}
 use Rattle.machine.proofs.whole.Machine.expire.Goals as goal
 
 pub cascade-requires-clause-direct : goal.cascade-requires-clause-direct

@@ -1,9 +1,6 @@
 use Rattle.std.proofs.Common.{◌≡◌, sym, ◌∙◌, ap, subst, true, false, ℕ, ◌+◌, arith, OnOk, Some}
 use Rattle.machine.proofs.Common.{slice_get, option_map_or, Row, updated, Queued, is_ended, is_unfinished, is_guard_of, started, Machine, IsTime, WellFormed}
-use Rattle.machine.proofs.EnterLemmas.{can_start, issued_with_guard}
-use Rattle.machine.proofs.CascadedRows.{direct_one}
-use Rattle.machine.proofs.FormedMachines.{mostly}
-use Rattle.machine.proofs.GuardLemmas.{apart, guard_is_guard_of, same_row, guards_linked, unfinished_queued}
+use Rattle.machine.proofs.{EnterLemmas.can_start, EnterLemmas.issued_with_guard, CascadedRows.direct_one, FormedMachines.mostly, GuardLemmas.apart, GuardLemmas.guard_is_guard_of, GuardLemmas.same_row, GuardLemmas.guards_linked, GuardLemmas.unfinished_queued}
 use Rattle.machine.proofs.whole.Machine.issue.Goals as goal
 
 pub cascade-requires-clause-direct : goal.cascade-requires-clause-direct

@@ -1,8 +1,6 @@
-use Rattle.machine.proofs.Common.{◌∙◌, sym, ap, [], ◌∷◌, ◌++◌, entries_at}
-use Rattle.ring_words.specs.Rings.{sub_list}
-use Rattle.machine.proofs.TakingWords.{one_more, entries-named, entries-skipped}
+use Rattle.machine.proofs.Common.{◌∙◌, sym, ap, [], ◌∷◌, ◌++◌, entries_at, sub_list}
+use Rattle.machine.proofs.{TakingWords.one_more, TakingWords.entries-named, TakingWords.entries-skipped, whole.Machine.list_entries.Goals.in-Some+in_ok-push, whole.Machine.list_entries.Goals.in_default}
 use Rattle.machine.proofs.whole.Machine.list_entries.Goals as goal
-use Rattle.machine.proofs.whole.Machine.list_entries.Goals.{in-Some+in_ok-push, in_default}
 
 pub loop-i-preserved : goal.loop-i-preserved
 loop-i-preserved c =

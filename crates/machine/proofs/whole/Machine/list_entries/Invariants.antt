@@ -1,5 +1,4 @@
-use Rattle.machine.proofs.Common.{◌≡◌, take, entries_at}
-use Rattle.ring_words.specs.Rings.{sub_list}
+use Rattle.machine.proofs.Common.{◌≡◌, take, entries_at, sub_list}
 use Rattle.machine.proofs.whole.Machine.list_entries.Given as goal
 
 abbrev pub invariant-loop-i : goal.invariant-loop-i

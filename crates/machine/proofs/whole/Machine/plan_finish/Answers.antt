@@ -1,7 +1,6 @@
 use Rattle.std.proofs.Common.{◌≡◌, ◌∙◌, sym, subst, Some, false, w32, FitsSigned, rules, ℤ}
 use Rattle.machine.proofs.Common.{slice_get, to_z-of_z, Issued, is_held_by, is_cancel, is_timer, outcome_of, Res, Plans, Complete, Finish}
-use Rattle.machine.proofs.PipeCounts.{puts_fit}
-use Rattle.machine.proofs.PlanLemmas.{complete_planned, finish_of_other}
+use Rattle.machine.proofs.{PipeCounts.puts_fit, PlanLemmas.complete_planned, PlanLemmas.finish_of_other}
 use Rattle.machine.proofs.whole.Machine.plan_finish.Goals as goal
 
 pub returns-in-Res-clause-ok : goal.returns-in-Res-clause-ok

@@ -1,6 +1,5 @@
 use Rattle.std.proofs.Common.{◌≡◌, sym, ◌∙◌, subst, Option, Some, IfErr}
-use Rattle.places.specs.declared.value.Stage.TheVariants.{Waiting}
-use Rattle.scenario.specs.declared.event.Refusal.{Refusal}
+use Rattle.machine.proofs.Common.{Refusal, Waiting}
 use Rattle.machine.proofs.PlanLemmas.{return_planned, step_refusal}
 use Rattle.machine.proofs.whole.Machine.plan_step.Goals as goal
 

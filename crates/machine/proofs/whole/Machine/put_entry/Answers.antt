@@ -1,6 +1,5 @@
 use Rattle.machine.proofs.Common.{◌<◌, sym, subst, length, Keeps, keeps_then, SubWords, view, everywhere}
-use Rattle.machine.proofs.Lifting.{keeps_slot, lift_threads}
-use Rattle.machine.proofs.InstructionLemmas.{thread_there, can_advance, is_done}
+use Rattle.machine.proofs.{Lifting.keeps_slot, Lifting.lift_threads, InstructionLemmas.thread_there, InstructionLemmas.can_advance, InstructionLemmas.is_done}
 use Rattle.machine.proofs.whole.Machine.put_entry.Goals as goal
 
 pub put_entry-requires : goal.put_entry-requires

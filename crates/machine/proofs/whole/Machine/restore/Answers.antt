@@ -1,7 +1,5 @@
-use Rattle.machine.proofs.Common.{sym, ◌∙◌, ap, ◌++◌, view}
-use Rattle.machine.proofs.Staying.{remains}
-use Rattle.machine.proofs.Restored.{first_part, second_part, third_part, went_back}
-use Rattle.places.proofs.Undoing.{once_front, once_back}
+use Rattle.machine.proofs.Common.{sym, ◌∙◌, ap, ◌++◌, view, once_front, once_back}
+use Rattle.machine.proofs.{Staying.remains, Restored.first_part, Restored.second_part, Restored.third_part, Restored.went_back}
 use Rattle.machine.proofs.whole.Machine.restore.Goals as goal
 
 pub overwrite-requires-clause-origin : goal.overwrite-requires-clause-origin

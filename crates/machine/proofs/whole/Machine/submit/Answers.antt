@@ -1,7 +1,5 @@
 use Rattle.machine.proofs.Common.{◌≡◌, ◌∙◌, ℕ, ℤ, List, [], sym, subst, arith, eqb-true, Direct}
-use Rattle.machine.proofs.FormedSubmissions.{cascades_in}
-use Rattle.machine.proofs.NothingTaken.{empty, only_taken}
-use Rattle.machine.proofs.SubmissionLemmas.{accepted_fits}
+use Rattle.machine.proofs.{FormedSubmissions.cascades_in, NothingTaken.empty, NothingTaken.only_taken, SubmissionLemmas.accepted_fits}
 use Rattle.machine.proofs.whole.Machine.submit.Goals as goal
 
 pub cascade-requires-clause-direct : goal.cascade-requires-clause-direct

@@ -1,8 +1,6 @@
 use Rattle.std.proofs.Common.{◌∙◌, ◌≡◌, sym, ap, subst, ◌++◌, length, arith, List, ℕ, Bool, if◌then◌else◌}
 use Rattle.machine.proofs.Common.{Sqe, Row, halts, taken_of, rows_of, offered, offered_entries, entries_at, up_to_entry, taken, words_for, Grows, Machine}
-use Rattle.machine.proofs.FormedRows.{length-entries_at}
-use Rattle.machine.proofs.Growing.{grows_taken, grows_more}
-use Rattle.machine.proofs.SubmissionLemmas.{take_is_taken, words_least}
+use Rattle.machine.proofs.{FormedRows.length-entries_at, Growing.grows_taken, Growing.grows_more, SubmissionLemmas.take_is_taken, SubmissionLemmas.words_least}
 use Rattle.machine.proofs.whole.Machine.take.Goals as goal
 
 pub take_batch-requires : goal.take_batch-requires

@@ -1,5 +1,4 @@
-use Rattle.machine.proofs.Common.{arith, length-take-le, offered}
-use Rattle.ring_words.specs.Rings.{sub_list}
+use Rattle.machine.proofs.Common.{arith, length-take-le, offered, sub_list}
 use Rattle.machine.proofs.FormedRows.{length-entries_at}
 use Rattle.machine.proofs.whole.Machine.word_count.Goals as goal
 

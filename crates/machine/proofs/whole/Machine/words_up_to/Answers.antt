@@ -1,8 +1,6 @@
-use Rattle.machine.proofs.Common.{◌∙◌, ◌+◌, sym, ap, subst, ℕ, arith, is_some, slice_get-take_below, length-take-le, offered}
-use Rattle.ring_words.specs.Rings.{sub_list}
-use Rattle.machine.proofs.TakingWords.{Reading, reading_on, reading_there}
+use Rattle.machine.proofs.Common.{◌∙◌, ◌+◌, sym, ap, subst, ℕ, arith, is_some, slice_get-take_below, length-take-le, offered, sub_list}
+use Rattle.machine.proofs.{TakingWords.Reading, TakingWords.reading_on, TakingWords.reading_there, whole.Machine.words_up_to.Goals.then-is_some, whole.Machine.words_up_to.Goals.else-is_some}
 use Rattle.machine.proofs.whole.Machine.words_up_to.Goals as goal
-use Rattle.machine.proofs.whole.Machine.words_up_to.Goals.{then-is_some, else-is_some}
 
 pub loop-left-preserved : goal.loop-left-preserved
 loop-left-preserved c =

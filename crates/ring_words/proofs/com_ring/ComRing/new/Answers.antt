@@ -1,5 +1,4 @@
-use Rattle.ring_words.proofs.Common.{◌≡◌, ◌∙◌, ap, length, subst, sym, ℕ, arith, IsSize}
-use Rattle.std.proofs.lemmas.List.{length-replicate}
+use Rattle.ring_words.proofs.Common.{◌≡◌, ◌∙◌, ap, length, subst, sym, ℕ, arith, IsSize, length-replicate}
 use Rattle.ring_words.proofs.Sizes.{grown, next_size}
 use Rattle.ring_words.proofs.com_ring.ComRing.new.Goals as goal
 

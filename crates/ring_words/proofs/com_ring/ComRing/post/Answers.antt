@@ -1,8 +1,5 @@
-use Rattle.ring_words.proofs.Common.{◌≡◌, refl, length, ◌<◌, ◌%◌, arith, slice_get_read, keeps_noted, keeps_then}
-use Rattle.ring_words.proofs.Order.{list_back}
-use Rattle.ring_words.proofs.Sizes.{size_divides, size_some}
-use Rattle.ring_words.proofs.Seen.{com_seen_tail, com_seen_slot}
-use Rattle.ring_words.specs.Rings.{com_list}
+use Rattle.ring_words.proofs.Common.{◌≡◌, refl, length, ◌<◌, ◌%◌, arith, slice_get_read, keeps_noted, keeps_then, com_list}
+use Rattle.ring_words.proofs.{Order.list_back, Sizes.size_divides, Sizes.size_some, Seen.com_seen_tail, Seen.com_seen_slot}
 use Rattle.ring_words.proofs.com_ring.ComRing.post.Goals as goal
 
 -- The slot is recorded and written, then the tail.

@@ -1,8 +1,5 @@
-use Rattle.ring_words.proofs.Common.{◌≡◌, refl, ◌<◌, ◌%◌, length, arith, slice_get_read, keeps_noted}
-use Rattle.ring_words.proofs.Order.{list_front}
-use Rattle.ring_words.proofs.Sizes.{size_divides, size_some}
-use Rattle.ring_words.proofs.Seen.{com_seen_head}
-use Rattle.ring_words.specs.Rings.{com_list}
+use Rattle.ring_words.proofs.Common.{◌≡◌, refl, ◌<◌, ◌%◌, length, arith, slice_get_read, keeps_noted, com_list}
+use Rattle.ring_words.proofs.{Order.list_front, Sizes.size_divides, Sizes.size_some, Seen.com_seen_head}
 use Rattle.ring_words.proofs.com_ring.ComRing.reap.Goals as goal
 
 pub returns-clause-keeps : goal.returns-clause-keeps

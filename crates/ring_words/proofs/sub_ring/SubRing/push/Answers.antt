@@ -1,8 +1,5 @@
-use Rattle.ring_words.proofs.Common.{◌≡◌, refl, length, ◌<◌, ◌%◌, arith, slice_get_read, keeps_noted, keeps_then}
-use Rattle.ring_words.proofs.Order.{list_back}
-use Rattle.ring_words.proofs.Sizes.{size_divides, size_some}
-use Rattle.ring_words.proofs.Seen.{sub_seen_tail, sub_seen_word}
-use Rattle.ring_words.specs.Rings.{sub_list}
+use Rattle.ring_words.proofs.Common.{◌≡◌, refl, length, ◌<◌, ◌%◌, arith, slice_get_read, keeps_noted, keeps_then, sub_list}
+use Rattle.ring_words.proofs.{Order.list_back, Sizes.size_divides, Sizes.size_some, Seen.sub_seen_tail, Seen.sub_seen_word}
 use Rattle.ring_words.proofs.sub_ring.SubRing.push.Goals as goal
 
 -- The word is recorded and written, then the tail.

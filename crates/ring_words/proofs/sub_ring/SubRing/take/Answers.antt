@@ -1,8 +1,5 @@
-use Rattle.ring_words.proofs.Common.{refl, ◌<◌, ◌%◌, length, arith, slice_get-get_or, keeps_noted, keeps_then}
-use Rattle.ring_words.proofs.Order.{list_front}
-use Rattle.ring_words.proofs.Sizes.{size_divides, size_some}
-use Rattle.ring_words.proofs.Seen.{sub_seen_head, sub_seen_dropped}
-use Rattle.ring_words.specs.Rings.{sub_list}
+use Rattle.ring_words.proofs.Common.{refl, ◌<◌, ◌%◌, length, arith, slice_get-get_or, keeps_noted, keeps_then, sub_list}
+use Rattle.ring_words.proofs.{Order.list_front, Sizes.size_divides, Sizes.size_some, Seen.sub_seen_head, Seen.sub_seen_dropped}
 use Rattle.ring_words.proofs.sub_ring.SubRing.take.Goals as goal
 
 pub returns-then-index-len-clause-keeps : goal.returns-then-index-len-clause-keeps

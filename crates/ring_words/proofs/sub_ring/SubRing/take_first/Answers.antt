@@ -1,9 +1,5 @@
-use Rattle.ring_words.proofs.Common.{refl, ◌≤◌, arith, keeps_noted, keeps_then}
-use Rattle.ring_words.proofs.Order.{list_after}
-use Rattle.ring_words.proofs.Sizes.{size_divides, size_some}
-use Rattle.ring_words.proofs.Seen.{sub_seen_head, sub_seen_dropped}
-use Rattle.ring_words.proofs.Laws.{sub_length}
-use Rattle.ring_words.specs.Rings.{sub_list, waiting}
+use Rattle.ring_words.proofs.Common.{refl, ◌≤◌, arith, keeps_noted, keeps_then, sub_list, waiting}
+use Rattle.ring_words.proofs.{Order.list_after, Sizes.size_divides, Sizes.size_some, Seen.sub_seen_head, Seen.sub_seen_dropped, Laws.sub_length}
 use Rattle.ring_words.proofs.sub_ring.SubRing.take_first.Goals as goal
 
 pub returns-then-dropped-eq0-clause-keeps : goal.returns-then-dropped-eq0-clause-keeps

@@ -1,8 +1,5 @@
-use Rattle.ring_words.proofs.Common.{◌≡◌, sym, ◌∙◌, ap, ◌<◌, ◌+◌, ◌%◌, ◌^◌, length, arith, slice_get, mod-mod_of_dvd, slice_get_read}
-use Rattle.ring_words.proofs.Order.{items_get}
-use Rattle.ring_words.proofs.Sizes.{size_divides, size_some}
-use Rattle.ring_words.proofs.Laws.{sub_length}
-use Rattle.ring_words.specs.Rings.{sub_list, waiting}
+use Rattle.ring_words.proofs.Common.{◌≡◌, sym, ◌∙◌, ap, ◌<◌, ◌+◌, ◌%◌, ◌^◌, length, arith, slice_get, mod-mod_of_dvd, slice_get_read, sub_list, waiting}
+use Rattle.ring_words.proofs.{Order.items_get, Sizes.size_divides, Sizes.size_some, Laws.sub_length}
 use Rattle.ring_words.proofs.sub_ring.SubRing.word.Goals as goal
 
 pub returns : goal.returns
