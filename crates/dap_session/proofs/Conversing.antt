@@ -8,8 +8,8 @@ use Rattle.dap_frames.specs.Decoding.{Decoded, Partial, decode, start}
 use Rattle.dap_frames.specs.Views.{contents}
 use Rattle.dap_session.specs.Adapters.{AdapterState}
 use Rattle.dap_session.specs.Messages.{Answers}
-use Rattle.dap_session.specs.Posting.{Posted, Posts}
-use Rattle.dap_session.specs.declared.answer.Answer.{Answer}
+use Rattle.dap_answers.specs.Posting.{Posted, Posts}
+use Rattle.dap_answers.specs.declared.answer.Answer.{Answer}
 use Rattle.dap_session.specs.Serving.{Converses, ServingState, Served, Step, StepsTo, Takes, Took, fresh_adapter}
 
 -- Messages after others.

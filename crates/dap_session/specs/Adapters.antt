@@ -4,10 +4,10 @@ use Rattle.dap_messages.specs.declared.request.Request.{Request}
 use Rattle.dap_messages.specs.declared.request.Request.TheVariants as request
 use Rattle.dap_session.specs.declared.adapter.Phase.{Phase}
 use Rattle.dap_session.specs.declared.adapter.Phase.TheVariants as phase
-use Rattle.dap_session.specs.declared.answer.Asked.{Asked}
+use Rattle.dap_answers.specs.declared.answer.Asked.{Asked}
 use Rattle.serde_json.specs.declared.value.Value.{Value}
-use Rattle.dap_session.specs.declared.refusal.Refusal.{Refusal}
-use Rattle.dap_session.specs.declared.refusal.Refusal.TheVariants as refusal
+use Rattle.dap_answers.specs.declared.refusal.Refusal.{Refusal}
+use Rattle.dap_answers.specs.declared.refusal.Refusal.TheVariants as refusal
 use Rattle.dap_session.specs.Moves.{Moves, may_move, started}
 use Rattle.dap_session.specs.Runs.{RunState, walk_of}
 use Rattle.dap_session.specs.Shown.{Shows}

@@ -2,8 +2,6 @@ pub mod Runs
 pub mod Searches
 pub mod Moves
 pub mod Shown
-pub mod Owing
 pub mod Adapters
-pub mod Posting
 pub mod Messages
 pub mod Serving

@@ -10,10 +10,10 @@ use Rattle.dap_messages.specs.declared.request.LaunchArguments.{LaunchArguments}
 use Rattle.dap_messages.specs.declared.request.Request.{Request}
 use Rattle.dap_messages.specs.declared.request.Request.TheVariants as request
 use Rattle.dap_session.specs.Adapters.{AdapterState, Handles}
-use Rattle.dap_session.specs.Owing.{Settles, answered, outcome_in}
+use Rattle.dap_answers.specs.Owing.{Settles, answered, outcome_in}
 use Rattle.dap_session.specs.declared.adapter.Phase.TheVariants as phase
-use Rattle.dap_session.specs.declared.answer.Answer.{Answer}
-use Rattle.dap_session.specs.declared.answer.Asked.{Asked}
+use Rattle.dap_answers.specs.declared.answer.Answer.{Answer}
+use Rattle.dap_answers.specs.declared.answer.Asked.{Asked}
 
 -- The number and the command of a message: 0 and nothing if it has none.
 abbrev pub asked_of : Data → Asked

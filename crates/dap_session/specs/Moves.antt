@@ -9,17 +9,16 @@ use Rattle.watches.specs.declared.stopping.Stop.TheVariants as stop
 use Rattle.stops.specs.declared.landing.Cause.{Cause}
 use Rattle.stops.specs.declared.landing.Cause.TheVariants.{Breakpoint, Finding}
 use Rattle.stops.specs.Landings.{forward_landing, backward_landing}
-use Rattle.stops.specs.StopPoints.{next_stop, previous_stop}
+use Rattle.stops.specs.StopPoints.{next_stop}
 use Rattle.stops.specs.declared.steps.EditorThread.{EditorThread}
 use Rattle.stops.specs.declared.steps.EditorThread.TheVariants.{Run}
 use Rattle.dap_messages.specs.declared.request.Context.{Context}
 use Rattle.dap_messages.specs.declared.request.Context.TheVariants as context
 use Rattle.dap_messages.specs.declared.request.ExceptionFilter.{ExceptionFilter}
-use Rattle.dap_messages.specs.declared.request.Granularity.{Granularity}
-use Rattle.dap_messages.specs.declared.request.Granularity.TheVariants as granularity
 use Rattle.dap_messages.specs.declared.request.Request.{Request}
 use Rattle.dap_messages.specs.declared.request.Request.TheVariants as request
 use Rattle.dap_messages.specs.declared.request.StepArguments.{StepArguments}
+use Rattle.dap_views.specs.Steps.{moment_ahead, moment_back}
 use Rattle.dap_views.specs.Threads.{thread_of}
 use Rattle.dap_session.specs.Runs.{RunState, walk_of, len_of, gone_to}
 use Rattle.dap_session.specs.Searches.{StopsAtFindings}
@@ -28,17 +27,12 @@ use Rattle.dap_session.specs.Searches.{StopsAtFindings}
 abbrev pub thread_at : RunState → ℕ → EditorThread
 thread_at r id = unwrap_or (thread_of (walk_of r).setup id) Run
 
--- The thread whose stop points a step uses. A step by instructions is one of the whole run.
-abbrev pub stepping : EditorThread → Granularity → EditorThread
-stepping t granularity.Instruction = Run
-stepping t _ = t
-
 -- The moment to which a step goes, forward and back.
 abbrev pub next_moment : RunState → StepArguments → ℕ
-next_moment r a = next_stop (walk_of r).events (stepping (thread_at r a.thread) a.granularity) (walk_of r).at
+next_moment r a = moment_ahead (walk_of r) (thread_at r a.thread) a.granularity
 
 abbrev pub previous_moment : RunState → StepArguments → ℕ
-previous_moment r a = previous_stop (walk_of r).events (stepping (thread_at r a.thread) a.granularity) (walk_of r).at
+previous_moment r a = moment_back (walk_of r) (thread_at r a.thread) a.granularity
 
 -- The moment to which a step in goes: its target, or the one after the next event.
 abbrev pub inner_moment : RunState → StepArguments → ℕ

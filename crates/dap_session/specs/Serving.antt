@@ -4,9 +4,9 @@ use Rattle.std.specs.Io.KnownBytes.{Appends, Consumes, IsAtEnd}
 use Rattle.dap_frames.specs.Decoding.{Partial, decode, start}
 use Rattle.dap_session.specs.Adapters.{AdapterState}
 use Rattle.dap_session.specs.Messages.{Answers}
-use Rattle.dap_session.specs.Posting.{Posted, Posts}
+use Rattle.dap_answers.specs.Posting.{Posted, Posts}
 use Rattle.dap_session.specs.declared.adapter.Phase.TheVariants as phase
-use Rattle.dap_session.specs.declared.answer.Answer.{Answer}
+use Rattle.dap_answers.specs.declared.answer.Answer.{Answer}
 
 -- A session: the adapter, the input that is partly read, and what is to be written.
 pub record ServingState : Type 0 where

@@ -4,18 +4,17 @@ ghost use Rattle.serde_json.specs.View.{view};
 ghost use Rattle.dap_session.specs.Adapters.{Handles, IsRestarted, Launches, RunReplies, configured, is_accepted, with_run};
 ghost use Rattle.dap_session.specs.Messages.{Announces, Answers, AnswersValue, EndsAt, EndsOnlyBy, asked_of, nobody};
 ghost use Rattle.dap_session.specs.Moves.{started};
-ghost use Rattle.dap_session.specs.Owing.{Settles, answered, asked_in, outcome_in, outcome_of, owed_by};
+ghost use Rattle.dap_answers.specs.Owing.{Settles, answered, asked_in, outcome_in, outcome_of, owed_by};
 ghost use Rattle.dap_session.specs.Runs.{walk_of};
 ghost use Rattle.dap_session.specs.Serving.{fresh_adapter};
 
-use crate::answer::{Answer, Asked, Events, Reply, Response};
 use crate::base::Base;
 use crate::capabilities::capabilities;
 use crate::debuggee::Debuggee;
 use crate::loading::load;
-use crate::refusal::{Reason, Refusal};
 use crate::replying::moves;
 use crate::wanted::Wanted;
+use dap_answers::{Answer, Asked, Events, Reason, Refusal, Reply, Response};
 use dap_messages::{
     InitializeArguments, LaunchArguments, Program, Request, RequestFault, Text, command_name_in,
     read_request, seq_in,

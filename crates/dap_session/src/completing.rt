@@ -1,9 +1,8 @@
 //! The request `completions`.
 
-use crate::answer::Reply;
 use crate::debuggee::Debuggee;
 use crate::members::{Members, object_of};
-use crate::refusal::Refusal;
+use dap_answers::{Refusal, Reply};
 use dap_messages::CompletionsArguments;
 use serde_json::Value;
 use std::alloc::{AllocError, Global};

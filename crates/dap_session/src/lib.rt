@@ -3,7 +3,6 @@
 
 mod adapter;
 mod addresses;
-mod answer;
 mod base;
 mod breakpoints;
 mod capabilities;
@@ -16,8 +15,6 @@ mod loading;
 mod looking;
 mod members;
 mod moving;
-mod outbox;
-mod refusal;
 mod replying;
 mod searched;
 mod serving;

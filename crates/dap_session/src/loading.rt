@@ -5,7 +5,7 @@ ghost use Rattle.dap_session.specs.Runs.{walk_of};
 
 use crate::base::Base;
 use crate::debuggee::Debuggee;
-use crate::refusal::Refusal;
+use dap_answers::Refusal;
 use dap_messages::{Program, Text};
 use debug_server::{RunFault, Session, script_of};
 use machine::{Event, Setup};

@@ -7,10 +7,9 @@ ghost use Rattle.dap_session.specs.Moves.{thread_at};
 ghost use Rattle.dap_session.specs.Runs.{walk_of};
 ghost use Rattle.dap_session.specs.Shown.{IsBody, IsFrame, ShowsStack, ShowsVariables};
 
-use crate::answer::Reply;
 use crate::debuggee::Debuggee;
 use crate::members::{Members, object_of};
-use crate::refusal::{Reason, Refusal};
+use dap_answers::{Reason, Refusal, Reply};
 use dap_messages::{DataBreakpointInfoArguments, StackTraceArguments, VariablesArguments};
 use dap_views::{
     Page, container_of, evaluate, evaluate_body, frame_of, frame_value, place_named, scopes_body,

@@ -1,22 +1,19 @@
 //! The requests that move.
 ghost use Rattle.std.specs.Prelude.{◌≡◌, ◌⊎◌, ◌<◌, IfOk, IfErr, OnOk, OnErr, is_some};
-ghost use Rattle.dap_session.specs.Moves.{thread_at, stepping, next_moment, previous_moment, inner_moment, watched_moment, holds, cause_here, stays, forward_moment, backward_moment, commanded, started};
+ghost use Rattle.dap_session.specs.Moves.{thread_at, next_moment, previous_moment, inner_moment, watched_moment, holds, cause_here, stays, forward_moment, backward_moment, commanded, started};
 ghost use Rattle.dap_session.specs.Runs.{gone_to};
 
-use crate::answer::{Events, Reply};
 use crate::debuggee::Debuggee;
 use crate::members::Members;
-use crate::refusal::{Reason, Refusal};
-use dap_messages::{Granularity, StepArguments};
-use dap_views::{thread_id, thread_of};
+use dap_answers::{Events, Reason, Refusal, Reply};
+use dap_messages::StepArguments;
+use dap_views::{moment_ahead, moment_back, thread_id, thread_of};
 use machine::Event;
 use run_log::{change_lines, changes_of};
 use script::EventText;
 use serde_json::Value;
 use std::alloc::{AllocError, Global};
-use stops::{
-    Cause, EditorThread, Landing, Moments, backward, forward, next_stop, previous_stop, record_of,
-};
+use stops::{Cause, EditorThread, Landing, Moments, backward, forward, next_stop, record_of};
 use watches::{Stop, earlier, later};
 
 /// The number of the thread `run`.
@@ -207,8 +204,7 @@ impl Debuggee {
         ensures err { OnErr result (self.new ≡ self.old) }
     {
         let thread = self.thread(arguments.thread)?;
-        let by = stepping(thread, arguments.granularity);
-        let moment = next_stop(self.walker().events(), by, self.walker().at());
+        let moment = moment_ahead(self.walker(), thread, arguments.granularity);
         self.step_to(thread, moment)
     }
 
@@ -219,8 +215,7 @@ impl Debuggee {
         ensures err { OnErr result (self.new ≡ self.old) }
     {
         let thread = self.thread(arguments.thread)?;
-        let by = stepping(thread, arguments.granularity);
-        let moment = previous_stop(self.walker().events(), by, self.walker().at());
+        let moment = moment_back(self.walker(), thread, arguments.granularity);
         self.step_to(thread, moment)
     }
 
@@ -379,15 +374,5 @@ impl Debuggee {
             body: Some(members.finish()),
             events,
         })
-    }
-}
-
-// Returns the thread whose stop points a step uses.
-fn stepping(thread: EditorThread, granularity: Granularity) -> EditorThread
-    ensures { result ≡ stepping thread granularity }
-{
-    match granularity {
-        Granularity::Instruction => EditorThread::Run,
-        _ => thread,
     }
 }

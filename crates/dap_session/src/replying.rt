@@ -4,9 +4,8 @@ ghost use Rattle.dap_session.specs.Moves.{Evaluates, Moves, forward_moment, back
 ghost use Rattle.dap_session.specs.Runs.{gone_to};
 ghost use Rattle.dap_session.specs.Shown.{Shows, ShowsValue};
 
-use crate::answer::Reply;
 use crate::debuggee::Debuggee;
-use crate::refusal::{Reason, Refusal};
+use dap_answers::{Reason, Refusal, Reply};
 use dap_messages::{Context, EvaluateArguments, Request};
 
 // Returns whether an expression is a line of the console.

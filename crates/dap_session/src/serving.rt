@@ -6,7 +6,7 @@ ghost use Rattle.dap_frames.specs.Views.{contents};
 ghost use Rattle.dap_session.specs.Serving.{Converses, Served, StepsTo, Takes, fresh_adapter};
 
 use crate::adapter::Adapter;
-use crate::outbox::Outbox;
+use dap_answers::Outbox;
 use dap_frames::{Decoder, FrameFault};
 use std::alloc::Global;
 use std::io::{Read, Write};

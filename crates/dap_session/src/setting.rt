@@ -3,15 +3,14 @@ ghost use Rattle.std.specs.Prelude.{◌≡◌, IfOk, OnErr, OnOk, filter, map};
 ghost use Rattle.dap_session.specs.Moves.{SetsFindings};
 ghost use Rattle.dap_session.specs.Searches.{finding_moments, moment_in, stops_at};
 
-use crate::answer::Reply;
 use crate::breakpoints::{Lines, moment_of, moments_of, name_of};
 use crate::conditions::value_of;
 use crate::debuggee::Debuggee;
 use crate::members::object_of;
-use crate::refusal::Refusal;
 use crate::sourcing::TRACE_SOURCE;
 use crate::verdicts::{unverified, verified, verified_at};
 use crate::wanted::{Wanted, stops_at};
+use dap_answers::{Refusal, Reply};
 use dap_messages::{
     DataBreakpoint, ExceptionFilter, FunctionBreakpoint, InstructionBreakpoint,
     SetBreakpointsArguments, Source, SourceBreakpoint,

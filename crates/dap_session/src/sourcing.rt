@@ -4,13 +4,12 @@ ghost use Rattle.inverse_log.specs.Walks.{ending};
 ghost use Rattle.dap_session.specs.Runs.{walk_of};
 
 use crate::addresses::address_of;
-use crate::answer::Reply;
 use crate::debuggee::Debuggee;
 use crate::lines::{Located, MOST_LINES, Wish};
 use crate::members::{Members, object_of};
-use crate::refusal::{Reason, Refusal};
 use crate::verdicts::add_range;
 use base64::engine::general_purpose::STANDARD;
+use dap_answers::{Reason, Refusal, Reply};
 use dap_messages::{
     BreakpointLocationsArguments, DisassembleArguments, GotoTargetsArguments, ReadMemoryArguments,
 };

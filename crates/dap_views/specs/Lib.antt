@@ -9,3 +9,4 @@ pub mod Pages
 pub mod Windows
 pub mod Evaluations
 pub mod Bodies
+pub mod Steps

@@ -18,6 +18,7 @@ mod pages;
 mod reports;
 mod requests;
 mod scope;
+mod steps;
 mod variable;
 
 pub use bodies::{evaluate_body, scopes_body, threads_body, variable_value, variables_body};
@@ -30,4 +31,5 @@ pub use listing::variables;
 pub use pages::Page;
 pub use requests::RequestField;
 pub use scope::scopes;
+pub use steps::{moment_ahead, moment_back};
 pub use variable::Variable;

@@ -37,7 +37,6 @@ const ROWS: usize = 64;
 pub(crate) type Rows = PagedList<Row, ROWS>;
 
 /// All requests ever submitted, in order. A request's number is its index.
-#[derive(Drop)]
 pub struct Table {
     rows: Rows,
     /// How many issued requests hold each descriptor.
@@ -46,6 +45,18 @@ pub struct Table {
     index: Index,
     /// Finds requests by their user_data or descriptor.
     finder: Finder,
+}
+
+// Written by hand, so that dropping it is one step of a proof.
+impl Drop for Table {
+    fn drop(self) {
+        let Table {
+            rows: _,
+            held: _,
+            index: _,
+            finder: _,
+        } = self;
+    }
 }
 
 impl Model for Table {

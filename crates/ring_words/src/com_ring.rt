@@ -18,11 +18,21 @@ use std::marker::Model;
 pub(crate) const SLOTS: usize = 128;
 
 /// The completion ring: the kernel posts at the tail, and the application reaps at the head.
-#[derive(Drop)]
 pub struct ComRing {
     pub(crate) head: u32,
     pub(crate) tail: u32,
     pub(crate) slots: PagedList<Cqe, SLOTS>,
+}
+
+// Written by hand, so that dropping it is one step of a proof.
+impl Drop for ComRing {
+    fn drop(self) {
+        let ComRing {
+            head: _,
+            tail: _,
+            slots: _,
+        } = self;
+    }
 }
 
 impl Model for ComRing {
@@ -213,5 +223,15 @@ impl ComRing {
         note_word(notes, Place::CompletionHead, self.head);
         self.head = self.head.wrapping_add(1);
         completion
+    }
+
+    /// Returns its storage.
+    pub(crate) fn into_slots(self) -> PagedList<Cqe, SLOTS> {
+        let ComRing {
+            head: _,
+            tail: _,
+            slots,
+        } = self;
+        slots
     }
 }

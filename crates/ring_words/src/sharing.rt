@@ -8,8 +8,11 @@ use shared_pages::{PagedList, SharedList};
 use std::alloc::{AllocError, Global};
 use std::marker::Model;
 
+type Words = PagedList<u32, { sub_ring::WORDS }>;
+
+type Entries = PagedList<Sqe, { sub_ring::SLOTS }>;
+
 /// A copy of a submission ring. Contracts see it as the ring.
-#[derive(Drop)]
 pub struct SharedSubRing {
     head: u32,
     tail: u32,
@@ -17,6 +20,20 @@ pub struct SharedSubRing {
     dropped: u32,
     array: SharedList<u32, { sub_ring::WORDS }>,
     slots: SharedList<Sqe, { sub_ring::SLOTS }>,
+}
+
+// Written by hand, so that dropping it is one step of a proof.
+impl Drop for SharedSubRing {
+    fn drop(self) {
+        let SharedSubRing {
+            head: _,
+            tail: _,
+            flags: _,
+            dropped: _,
+            array: _,
+            slots: _,
+        } = self;
+    }
 }
 
 impl Model for SharedSubRing {
@@ -45,11 +62,21 @@ impl Model for SharedSubRing {
 }
 
 /// A copy of a completion ring. Contracts see it as the ring.
-#[derive(Drop)]
 pub struct SharedComRing {
     head: u32,
     tail: u32,
     slots: SharedList<Cqe, { com_ring::SLOTS }>,
+}
+
+// Written by hand, so that dropping it is one step of a proof.
+impl Drop for SharedComRing {
+    fn drop(self) {
+        let SharedComRing {
+            head: _,
+            tail: _,
+            slots: _,
+        } = self;
+    }
 }
 
 impl Model for SharedComRing {
@@ -87,17 +114,7 @@ impl SharedSubRing {
         ensures { IfOk result (λ ring. ring ≡ self.now) }
     {
         let (array, slots) = match room {
-            Some(ring) => {
-                let SubRing {
-                    head: _,
-                    tail: _,
-                    flags: _,
-                    dropped: _,
-                    array,
-                    slots,
-                } = ring;
-                (array, slots)
-            }
+            Some(ring) => ring.into_lists(),
             None => (PagedList::new(alloc), PagedList::new(alloc)),
         };
         Ok(SubRing {
@@ -132,14 +149,7 @@ impl SharedComRing {
         ensures { IfOk result (λ ring. ring ≡ self.now) }
     {
         let slots = match room {
-            Some(ring) => {
-                let ComRing {
-                    head: _,
-                    tail: _,
-                    slots,
-                } = ring;
-                slots
-            }
+            Some(ring) => ring.into_slots(),
             None => PagedList::new(alloc),
         };
         Ok(ComRing {

@@ -25,7 +25,6 @@ pub(crate) const SLOTS: usize = 32;
 
 /// The submission ring: the application pushes indexes of entry slots at the tail, and the kernel
 /// takes them at the head. It has as many entry slots as words in the index array.
-#[derive(Drop)]
 pub struct SubRing {
     pub(crate) head: u32,
     pub(crate) tail: u32,
@@ -33,6 +32,20 @@ pub struct SubRing {
     pub(crate) dropped: u32,
     pub(crate) array: PagedList<u32, WORDS>,
     pub(crate) slots: PagedList<Sqe, SLOTS>,
+}
+
+// Written by hand, so that dropping it is one step of a proof.
+impl Drop for SubRing {
+    fn drop(self) {
+        let SubRing {
+            head: _,
+            tail: _,
+            flags: _,
+            dropped: _,
+            array: _,
+            slots: _,
+        } = self;
+    }
 }
 
 impl Model for SubRing {
@@ -386,5 +399,18 @@ impl SubRing {
         } else {
             self.flags &= !flag.bit();
         }
+    }
+
+    /// Returns its storage.
+    pub(crate) fn into_lists(self) -> (PagedList<u32, WORDS>, PagedList<Sqe, SLOTS>) {
+        let SubRing {
+            head: _,
+            tail: _,
+            flags: _,
+            dropped: _,
+            array,
+            slots,
+        } = self;
+        (array, slots)
     }
 }

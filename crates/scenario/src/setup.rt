@@ -28,7 +28,6 @@ pub enum Instruction {
 }
 
 /// The start of a run: ring sizes, memory, objects, descriptors and programs.
-#[derive(Drop)]
 pub struct Setup {
     /// Submission entries, 1 to 4,096, rounded up to a power of two.
     pub entries: u32,
@@ -49,6 +48,23 @@ pub struct Setup {
     pub fds: Items<Descriptor>,
     /// The threads' programs: at most 16, of at most 4,096 instructions each.
     pub threads: Items<Items<Instruction>>,
+}
+
+// Written by hand, so that dropping it is one step of a proof.
+impl Drop for Setup {
+    fn drop(self) {
+        let Setup {
+            entries: _,
+            cq: _,
+            sqpoll: _,
+            submit_all: _,
+            base: _,
+            memory: _,
+            objects: _,
+            fds: _,
+            threads: _,
+        } = self;
+    }
 }
 
 /// Why a run can't start from a setup. The checks have this order.

@@ -28,6 +28,16 @@ impl Finder {
             holding: self.holding.copy(alloc)?,
         })
     }
+
+    // Returns the storage of its links.
+    fn into_links(self) -> (Links, Links) {
+        let Finder {
+            last,
+            previous,
+            holding: _,
+        } = self;
+        (last, previous)
+    }
 }
 
 impl SharedFinder {
@@ -37,11 +47,7 @@ impl SharedFinder {
     pub(crate) fn restore(&self, alloc: Global, room: Finder) -> Result<Finder, AllocError>
         ensures { IfOk result (λ finder. finder ≡ finder_in self.now) }
     {
-        let Finder {
-            last,
-            previous,
-            holding: _,
-        } = room;
+        let (last, previous) = room.into_links();
         Ok(Finder {
             last: self.last.restore(last)?,
             previous: self.previous.restore(previous)?,

@@ -11,12 +11,23 @@ use std::alloc::{AllocError, Global};
 use std::marker::Model;
 
 /// A copy of a table. Contracts see it as its list of requests.
-#[derive(Drop)]
 pub struct SharedTable {
     rows: SharedList<Row, ROWS>,
     held: Held,
     index: Index,
     finder: SharedFinder,
+}
+
+// Written by hand, so that dropping it is one step of a proof.
+impl Drop for SharedTable {
+    fn drop(self) {
+        let SharedTable {
+            rows: _,
+            held: _,
+            index: _,
+            finder: _,
+        } = self;
+    }
 }
 
 impl Model for SharedTable {
@@ -47,6 +58,17 @@ impl Table {
             finder: self.finder.share(alloc)?,
         })
     }
+
+    // Returns the storage of its requests.
+    fn into_storage(self) -> (Rows, Finder) {
+        let Table {
+            rows,
+            held: _,
+            index: _,
+            finder,
+        } = self;
+        (rows, finder)
+    }
 }
 
 impl SharedTable {
@@ -55,15 +77,11 @@ impl SharedTable {
     pub fn restore(&self, alloc: Global, room: Option<Table>) -> Result<Table, AllocError>
         ensures { IfOk result (λ table. table ≡ self.now) }
     {
-        let Table {
-            rows,
-            held: _,
-            index: _,
-            finder,
-        } = match room {
+        let table = match room {
             Some(table) => table,
             None => Table::new(alloc),
         };
+        let (rows, finder) = table.into_storage();
         Ok(Table {
             rows: self.rows.restore(rows)?,
             held: self.held,

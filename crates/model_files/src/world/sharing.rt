@@ -12,11 +12,21 @@ use std::marker::Model;
 use std::sync::Arc;
 
 /// A copy of a world that shares its bytes. Contracts see it as the world.
-#[derive(Drop)]
 pub struct SharedWorld {
     memory: Arc<Vec<u8>>,
     objects: Vec<SharedBody>,
     descriptors: Vec<DescriptorState>,
+}
+
+// Written by hand, so that dropping it is one step of a proof.
+impl Drop for SharedWorld {
+    fn drop(self) {
+        let SharedWorld {
+            memory: _,
+            objects: _,
+            descriptors: _,
+        } = self;
+    }
 }
 
 impl Model for SharedWorld {
@@ -62,6 +72,16 @@ impl World {
             descriptors: Vec::from_slice(alloc, &self.descriptors)?,
         })
     }
+
+    // Returns the memory and the objects.
+    fn into_bytes(self) -> (Page<u8>, Vec<Body>) {
+        let World {
+            memory,
+            objects,
+            descriptors: _descriptors,
+        } = self;
+        (memory, objects)
+    }
 }
 
 // Returns the memory and the objects of a world, to be written over.
@@ -69,11 +89,7 @@ fn rooms_in(alloc: Global, room: Option<World>) -> (Option<Page<u8>>, Vec<Body>)
     let Some(world) = room else {
         return (None, Vec::new(alloc));
     };
-    let World {
-        memory,
-        objects,
-        descriptors: _descriptors,
-    } = world;
+    let (memory, objects) = world.into_bytes();
     (Some(memory), objects)
 }
 

@@ -1,10 +1,10 @@
 -- Which requests are answered, and which of them still are to be.
 use Rattle.std.specs.Prelude.{◌≡◌, ◌⊎◌, List, [], ◌∷◌, ◌++◌, Option, Some, None, Result, Ok, Err}
-use Rattle.dap_session.specs.declared.answer.Answer.{Answer}
-use Rattle.dap_session.specs.declared.answer.Asked.{Asked}
-use Rattle.dap_session.specs.declared.answer.Reply.{Reply}
-use Rattle.dap_session.specs.declared.answer.Response.{Response}
-use Rattle.dap_session.specs.declared.refusal.Refusal.{Refusal}
+use Rattle.dap_answers.specs.declared.answer.Answer.{Answer}
+use Rattle.dap_answers.specs.declared.answer.Asked.{Asked}
+use Rattle.dap_answers.specs.declared.answer.Reply.{Reply}
+use Rattle.dap_answers.specs.declared.answer.Response.{Response}
+use Rattle.dap_answers.specs.declared.refusal.Refusal.{Refusal}
 use Rattle.serde_json.specs.declared.value.Value.{Value}
 
 abbrev pub asked_in : Option Response → List Asked

@@ -4,7 +4,7 @@ ghost use Rattle.serde_json.specs.View.{view};
 ghost use Rattle.serde_json.specs.Written.{has_float, compact_text};
 ghost use Rattle.dap_frames.specs.Decoding.{frame};
 ghost use Rattle.dap_messages.specs.Messages.{error_value};
-ghost use Rattle.dap_session.specs.Posting.{Emits, EmitsAll, EmitsIf, EmitsIfAny, IsTooLong, Posts, Refuses, Responds, RespondsBy, RespondsIfAny, Sends};
+ghost use Rattle.dap_answers.specs.Posting.{Emits, EmitsAll, EmitsIf, EmitsIfAny, IsTooLong, Posts, Refuses, Responds, RespondsBy, RespondsIfAny, Sends};
 
 use crate::answer::{Answer, Asked, Events, Response};
 use crate::refusal::{Reason, Refusal};
@@ -16,14 +16,14 @@ use std::marker::Model;
 
 /// Frames that are to be written, and the number of the next message.
 #[derive(Drop)]
-pub(crate) struct Outbox {
+pub struct Outbox {
     alloc: Global,
     next: u64,
     bytes: Vec<u8>,
 }
 
 impl Model for Outbox {
-    ghost use Rattle.dap_session.specs.Posting.{Posted};
+    ghost use Rattle.dap_answers.specs.Posting.{Posted};
 
     ghost Value = { Posted };
 
@@ -59,7 +59,7 @@ fn refusal_of(
 
 impl Outbox {
     /// Returns an outbox without frames, whose first message has the number 1.
-    pub(crate) fn new(alloc: Global) -> Outbox
+    pub fn new(alloc: Global) -> Outbox
         ensures { result ≡ record { next = 1; bytes = [] } }
     {
         Outbox {
@@ -70,14 +70,14 @@ impl Outbox {
     }
 
     /// Returns the frames.
-    pub(crate) fn bytes(&self) -> &[u8]
+    pub fn bytes(&self) -> &[u8]
         ensures { result.now ≡ self.now.bytes }
     {
         self.bytes.as_slice()
     }
 
     /// Removes the frames.
-    pub(crate) fn clear(&mut self)
+    pub fn clear(&mut self)
         ensures { self.new ≡ record { next = self.old.next; bytes = [] } }
     {
         self.bytes.clear();
@@ -201,7 +201,7 @@ impl Outbox {
     }
 
     /// Adds the messages of an answer. Returns whether the session ends.
-    pub(crate) fn post(&mut self, answer: Answer) -> Result<bool, AllocError>
+    pub fn post(&mut self, answer: Answer) -> Result<bool, AllocError>
         ensures posted { OnOk result (Posts self.old answer self.new) }
         ensures ends { IfOk result (λ ends. ends ≡ answer.ends) }
     {

@@ -7,11 +7,11 @@ use Rattle.serde_json.specs.declared.value.Value.{Value}
 use Rattle.dap_frames.specs.Decoding.{frame}
 use Rattle.dap_frames.specs.Frames.{most_written}
 use Rattle.dap_messages.specs.Messages.{response_value, error_value, event_value}
-use Rattle.dap_session.specs.declared.answer.Answer.{Answer}
-use Rattle.dap_session.specs.declared.answer.Asked.{Asked}
-use Rattle.dap_session.specs.declared.answer.Events.{Events}
-use Rattle.dap_session.specs.declared.answer.Response.{Response}
-use Rattle.dap_session.specs.declared.refusal.Refusal.{Refusal}
+use Rattle.dap_answers.specs.declared.answer.Answer.{Answer}
+use Rattle.dap_answers.specs.declared.answer.Asked.{Asked}
+use Rattle.dap_answers.specs.declared.answer.Events.{Events}
+use Rattle.dap_answers.specs.declared.answer.Response.{Response}
+use Rattle.dap_answers.specs.declared.refusal.Refusal.{Refusal}
 
 -- The number of the next message, and the frames of the messages before it.
 pub record Posted : Type 0 where

@@ -1,5 +1,5 @@
 -- The outboxes between the events.
-use Rattle.dap_session.proofs.outbox.Outbox.emit_all.Goals as goal
+use Rattle.dap_answers.proofs.outbox.Outbox.emit_all.Goals as goal
 
 pub returns : goal.returns
 returns c = record {

@@ -1,5 +1,5 @@
 -- The outboxes between the responses and the events.
-use Rattle.dap_session.proofs.outbox.Outbox.post.Goals as goal
+use Rattle.dap_answers.proofs.outbox.Outbox.post.Goals as goal
 
 pub returns-clause-posted : goal.returns-clause-posted
 returns-clause-posted c = record {

@@ -1,6 +1,6 @@
 //! Why a request is refused.
 ghost use Rattle.std.specs.Prelude.{◌≡◌};
-ghost use Rattle.dap_session.specs.declared.refusal.Refusal.TheVariants.{Memory};
+ghost use Rattle.dap_answers.specs.declared.refusal.Refusal.TheVariants.{Memory};
 
 use dap_messages::{Field, RequestFault};
 use std::alloc::{AllocError, AllocFailed, Global};
