@@ -1,7 +1,7 @@
 //! Copies of the finder that share its pages.
 ghost use Rattle.std.specs.Prelude.{◌≡◌, IfOk};
 
-use super::{Finder, LINKS};
+use super::{Finder, LINKS, Links};
 use bit_sets::BitSet;
 use shared_pages::SharedList;
 use std::alloc::{AllocError, Global};

@@ -1,7 +1,8 @@
 //! Copies of the table that share its pages.
 ghost use Rattle.std.specs.Prelude.{◌≡◌, IfOk};
 
-use super::{ROWS, Table};
+use super::{ROWS, Rows, Table};
+use crate::finder::Finder;
 use crate::finder::sharing::SharedFinder;
 use crate::index::Index;
 use entries::Row;
