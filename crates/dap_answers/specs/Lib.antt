@@ -1,2 +1,2 @@
-pub mod Owing
+pub mod Outcomes
 pub mod Posting

@@ -1,6 +1,6 @@
 //! What is sent for a message of the editor.
 ghost use Rattle.std.specs.Prelude.{◌≡◌, None, Some, Err, false};
-ghost use Rattle.dap_answers.specs.Owing.{outcome_of};
+ghost use Rattle.dap_answers.specs.Outcomes.{outcome_of};
 
 use crate::refusal::Refusal;
 use dap_messages::Text;

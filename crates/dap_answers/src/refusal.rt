@@ -70,7 +70,7 @@ impl Reason {
 
 impl Refusal {
     /// Returns the number of its kind.
-    pub fn number(&self) -> u64 {
+    pub(crate) fn number(&self) -> u64 {
         match self {
             Refusal::Memory | Refusal::Request(RequestFault::Memory) => 1,
             Refusal::Request(RequestFault::NotAnObject | RequestFault::NotARequest)
@@ -83,7 +83,7 @@ impl Refusal {
     }
 
     /// Returns its sentence.
-    pub fn sentence(&self, alloc: Global) -> Result<String, AllocError> {
+    pub(crate) fn sentence(&self, alloc: Global) -> Result<String, AllocError> {
         match self {
             Refusal::Memory | Refusal::Request(RequestFault::Memory) => {
                 String::from_str(alloc, "out of memory")

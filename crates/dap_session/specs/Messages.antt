@@ -10,7 +10,7 @@ use Rattle.dap_messages.specs.declared.request.LaunchArguments.{LaunchArguments}
 use Rattle.dap_messages.specs.declared.request.Request.{Request}
 use Rattle.dap_messages.specs.declared.request.Request.TheVariants as request
 use Rattle.dap_session.specs.Adapters.{AdapterState, Handles}
-use Rattle.dap_answers.specs.Owing.{Settles, answered, outcome_in}
+use Rattle.dap_session.specs.Owing.{Settles, answered, outcome_in}
 use Rattle.dap_session.specs.declared.adapter.Phase.TheVariants as phase
 use Rattle.dap_answers.specs.declared.answer.Answer.{Answer}
 use Rattle.dap_answers.specs.declared.answer.Asked.{Asked}

@@ -4,7 +4,8 @@ ghost use Rattle.serde_json.specs.View.{view};
 ghost use Rattle.dap_session.specs.Adapters.{Handles, IsRestarted, Launches, RunReplies, configured, is_accepted, with_run};
 ghost use Rattle.dap_session.specs.Messages.{Announces, Answers, AnswersValue, EndsAt, EndsOnlyBy, asked_of, nobody};
 ghost use Rattle.dap_session.specs.Moves.{started};
-ghost use Rattle.dap_answers.specs.Owing.{Settles, answered, asked_in, outcome_in, outcome_of, owed_by};
+ghost use Rattle.dap_answers.specs.Outcomes.{outcome_of};
+ghost use Rattle.dap_session.specs.Owing.{Settles, answered, asked_in, outcome_in, owed_by};
 ghost use Rattle.dap_session.specs.Runs.{walk_of};
 ghost use Rattle.dap_session.specs.Serving.{fresh_adapter};
 

@@ -226,7 +226,7 @@ impl ComRing {
     }
 
     /// Returns its storage.
-    pub(crate) fn into_slots(self) -> PagedList<Cqe, SLOTS> {
+    pub(crate) fn into_storage(self) -> PagedList<Cqe, SLOTS> {
         let ComRing {
             head: _,
             tail: _,

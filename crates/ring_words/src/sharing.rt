@@ -8,10 +8,6 @@ use shared_pages::{PagedList, SharedList};
 use std::alloc::{AllocError, Global};
 use std::marker::Model;
 
-type Words = PagedList<u32, { sub_ring::WORDS }>;
-
-type Entries = PagedList<Sqe, { sub_ring::SLOTS }>;
-
 /// A copy of a submission ring. Contracts see it as the ring.
 pub struct SharedSubRing {
     head: u32,
@@ -114,7 +110,7 @@ impl SharedSubRing {
         ensures { IfOk result (λ ring. ring ≡ self.now) }
     {
         let (array, slots) = match room {
-            Some(ring) => ring.into_lists(),
+            Some(ring) => ring.into_storage(),
             None => (PagedList::new(alloc), PagedList::new(alloc)),
         };
         Ok(SubRing {
@@ -149,7 +145,7 @@ impl SharedComRing {
         ensures { IfOk result (λ ring. ring ≡ self.now) }
     {
         let slots = match room {
-            Some(ring) => ring.into_slots(),
+            Some(ring) => ring.into_storage(),
             None => PagedList::new(alloc),
         };
         Ok(ComRing {

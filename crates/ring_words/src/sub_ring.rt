@@ -402,7 +402,7 @@ impl SubRing {
     }
 
     /// Returns its storage.
-    pub(crate) fn into_lists(self) -> (PagedList<u32, WORDS>, PagedList<Sqe, SLOTS>) {
+    pub(crate) fn into_storage(self) -> (PagedList<u32, WORDS>, PagedList<Sqe, SLOTS>) {
         let SubRing {
             head: _,
             tail: _,

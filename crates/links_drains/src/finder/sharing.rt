@@ -29,8 +29,8 @@ impl Finder {
         })
     }
 
-    // Returns the storage of its links.
-    fn into_links(self) -> (Links, Links) {
+    // Returns its storage.
+    fn into_storage(self) -> (Links, Links) {
         let Finder {
             last,
             previous,
@@ -47,7 +47,7 @@ impl SharedFinder {
     pub(crate) fn restore(&self, alloc: Global, room: Finder) -> Result<Finder, AllocError>
         ensures { IfOk result (λ finder. finder ≡ finder_in self.now) }
     {
-        let (last, previous) = room.into_links();
+        let (last, previous) = room.into_storage();
         Ok(Finder {
             last: self.last.restore(last)?,
             previous: self.previous.restore(previous)?,

@@ -60,7 +60,7 @@ impl Table {
         })
     }
 
-    // Returns the storage of its requests.
+    // Returns its storage.
     fn into_storage(self) -> (Rows, Finder) {
         let Table {
             rows,

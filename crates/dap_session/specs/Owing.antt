@@ -2,7 +2,6 @@
 use Rattle.std.specs.Prelude.{◌≡◌, ◌⊎◌, List, [], ◌∷◌, ◌++◌, Option, Some, None, Result, Ok, Err}
 use Rattle.dap_answers.specs.declared.answer.Answer.{Answer}
 use Rattle.dap_answers.specs.declared.answer.Asked.{Asked}
-use Rattle.dap_answers.specs.declared.answer.Reply.{Reply}
 use Rattle.dap_answers.specs.declared.answer.Response.{Response}
 use Rattle.dap_answers.specs.declared.refusal.Refusal.{Refusal}
 use Rattle.serde_json.specs.declared.value.Value.{Value}
@@ -30,8 +29,3 @@ Settles owed asked now owed' =
 abbrev pub outcome_in : Option Response → Result (Option Value) Refusal
 outcome_in None = Ok None
 outcome_in (Some r) = r.outcome
-
--- The body of a reply, or the refusal.
-abbrev pub outcome_of : Result Reply Refusal → Result (Option Value) Refusal
-outcome_of (Ok reply) = Ok reply.body
-outcome_of (Err refusal) = Err refusal
