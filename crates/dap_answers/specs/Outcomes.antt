@@ -1,4 +1,4 @@
--- What a request comes to.
+-- The outcome of a request.
 use Rattle.std.specs.Prelude.{Option, Result, Ok, Err}
 use Rattle.dap_answers.specs.declared.answer.Reply.{Reply}
 use Rattle.dap_answers.specs.declared.refusal.Refusal.{Refusal}

@@ -1,5 +1,5 @@
-//! What an editor sees of a moment of a run: threads, frames, scopes, variables, and the values of
-//! expressions.
+//! What an editor sees of a moment of a run: threads, frames, scopes, variables, the values of
+//! expressions, and where steps lead.
 #![tactic(auto)]
 
 mod bodies;
