@@ -1,4 +1,4 @@
-use Rattle.machine.proofs.Common.{sym, ◌∙◌, subst, is_held_by, WorldState, world_after, stays_after, Mostly, Grows}
+use Rattle.machine.proofs.Common.{sym, ◌∙◌, subst, is_held_by, WorldState, world_after, stays_after, Mostly, Grows, rules}
 use Rattle.machine.proofs.{CascadedRows.direct_one, FormedMachines.mostly, FormedMachines.mostly_world, Growing.grows_then, Growing.grows_world, PipeCounts.puts_fit, GuardLemmas.guards_linked}
 use Rattle.machine.proofs.whole.Machine.complete.Goals as goal
 
@@ -26,3 +26,6 @@ returns-clause-grows c =
     let s = stays_after (is_held_by m.table) m.world o.row c.args.res choice c.requires.formed.mostly.world (puts_fit m c.requires.formed) outcome in
     let carried = subst (λ (w : WorldState). Grows m (record m { world = w })) (sym (c.in_ok-carry_out.ensures.ok ∙ does.same)) (grows_world m (world_after o.row c.args.res m.world) s.setup) in
     grows_then m (record m { world = c.carry_out.new.world }) c.cascade.new.self carried c.cascade.ensures.grows
+
+pub returns-clause-ok : goal.returns-clause-ok
+returns-clause-ok c = search rules
