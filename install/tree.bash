@@ -1,5 +1,5 @@
 # shellcheck shell=bash
-# The options --install, --uninstall and --dist of ./uringwalk, which reads this file. It uses that script's variables
+# The options --install, --uninstall and --dist of ./uringwalk: tools/setup reads this file. It uses that script's variables
 # top (the repository), program (the proved program) and prefix (PREFIX as a whole path).
 
 # The list of what is installed, below PREFIX. A line is a file, or a folder that was made, which ends in a slash: a
@@ -37,9 +37,10 @@ fill_in() {
 # Makes a tree of all files that are installed, as they are below PREFIX, and the list of them.
 make_tree() {
   local tree=$1 share=$1/share file
-  mkdir -p "$tree/bin" "$share/man/man1" "$share/bash-completion/completions" "$share/zsh/site-functions" \
-    "$share/fish/vendor_completions.d" "$share/uringwalk" &&
-    install -m 755 "${program:?}" "$tree/bin/uringwalk" &&
+  mkdir -p "$tree/bin" "$tree/libexec/uringwalk" "$share/man/man1" "$share/bash-completion/completions" \
+    "$share/zsh/site-functions" "$share/fish/vendor_completions.d" "$share/uringwalk" &&
+    install -m 755 "${program:?}" "$tree/libexec/uringwalk/uringwalk" &&
+    install -m 755 "$top/uringwalk" "$tree/bin/uringwalk" &&
     fill_in uringwalk.1 "$share/man/man1/uringwalk.1" &&
     install -m 644 "$top/install/uringwalk.bash" "$share/bash-completion/completions/uringwalk" &&
     install -m 644 "$top/install/uringwalk.zsh" "$share/zsh/site-functions/_uringwalk" &&
@@ -57,7 +58,7 @@ make_tree() {
 make_real() {
   local file
   command -v cc >/dev/null 2>&1 || return 0
-  install -m 755 "$top/install/uringwalk-real" "$1/bin/uringwalk-real" &&
+  install -m 755 "$top/tools/real/uringwalk-real" "$1/bin/uringwalk-real" &&
     ln "$1/share/bash-completion/completions/uringwalk" "$1/share/bash-completion/completions/uringwalk-real" &&
     ln "$1/share/fish/vendor_completions.d/uringwalk.fish" "$1/share/fish/vendor_completions.d/uringwalk-real.fish" || return
   for file in "$top"/tools/real/*.py "$top/tools/real/kernel.c"; do
