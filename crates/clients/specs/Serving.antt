@@ -1,7 +1,7 @@
 -- The faults of serving clients of a live run.
 use Rattle.std.specs.Prelude.{◌≡◌, ◌≢◌, ℕ, [], ◌∷◌}
 use Rattle.scenario.specs.declared.setup.Setup.{Setup}
-use Rattle.live_runner.specs.declared.running.LiveFault.TheVariants as live
+use Rattle.live_rules.specs.declared.faults.LiveFault.TheVariants as live
 use Rattle.debug_server.specs.declared.faults.Fault.{Fault}
 use Rattle.debug_server.specs.declared.faults.Fault.TheVariants.{File, Run, Live}
 use Rattle.debug_server.specs.Kinds.{IsOf, OfMemory, OfListening}

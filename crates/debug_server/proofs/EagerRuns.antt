@@ -10,7 +10,7 @@ use Rattle.machine.specs.declared.whole.Machine.{Machine}
 use Rattle.machine.specs.Steps.{after}
 use Rattle.machine.specs.Runs.{run, start, Accepts}
 use Rattle.inverse_log.proofs.Runs.{run-append, run-push, accepts-append}
-use Rattle.live_runner.specs.Offers.{eager_offer}
+use Rattle.live_rules.specs.Offers.{eager_offer}
 use Rattle.debug_server.specs.Eager.{Adds, IsWork, FollowsOne, Follows, RefusesOne, Stops, IsEager, IsRefusedEagerly, is_due}
 
 -- ---- Events that are added

@@ -13,7 +13,7 @@ use Rattle.machine.specs.declared.whole.Machine.{Machine}
 use Rattle.machine.specs.Runs.{start, run, Accepts}
 use Rattle.machine.specs.Steps.{refusal, after}
 use Rattle.machine.specs.Whole.{view}
-use Rattle.live_runner.specs.Offers.{eager_offer}
+use Rattle.live_rules.specs.Offers.{eager_offer}
 
 -- ---- What is due
 

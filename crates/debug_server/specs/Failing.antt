@@ -13,8 +13,8 @@ use Rattle.debug_server.specs.declared.faults.RunFault.{RunFault}
 use Rattle.debug_server.specs.declared.faults.RunFault.TheVariants as run
 use Rattle.debug_server.specs.declared.faults.Fault.{Fault}
 use Rattle.debug_server.specs.declared.faults.Fault.TheVariants.{File, Run, Live}
-use Rattle.live_runner.specs.declared.running.LiveFault.{LiveFault}
-use Rattle.live_runner.specs.declared.running.LiveFault.TheVariants as live
+use Rattle.live_rules.specs.declared.faults.LiveFault.{LiveFault}
+use Rattle.live_rules.specs.declared.faults.LiveFault.TheVariants as live
 use Rattle.traces.specs.Faults.{fault_number}
 use Rattle.machine.specs.Refusals.{number_of}
 

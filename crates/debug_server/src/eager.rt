@@ -12,7 +12,7 @@ ghost use Rattle.debug_server.specs.Kinds.{IsOf, OfSchedule, OfMemory};
 use crate::faults::RunFault;
 use crate::running::fault_by;
 use inverse_log::walker::TRACE_LIMIT;
-use live_runner::eager_offer;
+use live_rules::eager_offer;
 use machine::{Event, Refusal, Setup, State};
 use places::{Place, Stage, Value};
 use script::Script;

@@ -1,6 +1,6 @@
 //! Faults that end a run or a session early, and their texts.
 
-use live_runner::LiveFault;
+use live_rules::LiveFault;
 use machine::Refusal;
 use machine::laws::number_of_refusal;
 use script::{Key, Path, ScriptFault};

@@ -7,7 +7,7 @@ use Rattle.scenario.specs.declared.event.Event.{Event}
 use Rattle.machine.specs.declared.whole.Machine.{Machine}
 use Rattle.machine.specs.Runs.{start, Link, Accepts}
 use Rattle.inverse_log.proofs.Runs.{linked_more, linked_runs, linked_accepts}
-use Rattle.live_runner.specs.Actors.{is_own}
+use Rattle.live_rules.specs.Actors.{is_own}
 use Rattle.live_runner.specs.History.{History, Counted, Replays, AllOwn, Whole, closed_of}
 use Rattle.live_runner.specs.declared.receipt.Receipt.{Receipt}
 use Rattle.live_runner.specs.Received.{AllReceived}

@@ -3,9 +3,4 @@ pub mod ReceiptLemmas
 pub mod Numbering
 pub mod Working
 pub mod Passing
-pub mod Leasts
-pub mod Rows
 pub mod Rising
-pub mod OfferLemmas
-pub mod Ends
-pub mod EndedRows

@@ -7,7 +7,7 @@ use Rattle.machine.specs.Steps.{refusal}
 use Rattle.live_runner.specs.declared.receipt.Receipt.{Receipt}
 use Rattle.live_runner.specs.declared.lives.LiveRefusal.{LiveRefusal}
 use Rattle.live_runner.specs.declared.lives.LiveRefusal.TheVariants.{NotYours, TraceFull, Step}
-use Rattle.live_runner.specs.Actors.{is_own}
+use Rattle.live_rules.specs.Actors.{is_own}
 use Rattle.live_runner.specs.Received.{receipt}
 use Rattle.live_runner.specs.History.{History, Held, with_event, seat_with}
 

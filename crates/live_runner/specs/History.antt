@@ -9,7 +9,7 @@ use Rattle.machine.specs.declared.whole.Machine.{Machine}
 use Rattle.machine.specs.Steps.{after}
 use Rattle.machine.specs.Runs.{start, run, Accepts, Linked}
 use Rattle.live_runner.specs.declared.receipt.Receipt.{Receipt}
-use Rattle.live_runner.specs.Actors.{is_own}
+use Rattle.live_rules.specs.Actors.{is_own}
 use Rattle.live_runner.specs.Received.{AllReceived}
 
 -- A live run. `owners` are the actors that made the events, and `total` is the total of the

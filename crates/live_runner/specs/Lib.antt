@@ -1,7 +1,3 @@
-pub mod Actors
-pub mod Least
-pub mod Passing
-pub mod Offers
 pub mod Received
 pub mod History
 pub mod Attempts
@@ -9,3 +5,4 @@ pub mod Turns
 pub mod Numbers
 pub mod Running
 pub mod Receipts
+pub use Rattle.live_rules.specs.Actors

@@ -6,16 +6,16 @@ ghost use Rattle.scenario.specs.declared.event.Refusal.{Refusal};
 ghost use Rattle.scenario.specs.declared.setup.SetupRefusal.{SetupRefusal};
 ghost use Rattle.machine.specs.Runs.{start, Accepts};
 ghost use Rattle.machine.specs.Steps.{refusal};
-ghost use Rattle.live_runner.specs.Actors.{actors, is_own};
+ghost use Rattle.live_rules.specs.Actors.{actors, is_own};
 ghost use Rattle.live_runner.specs.Attempts.{Attempted};
 ghost use Rattle.live_runner.specs.History.{InOrder, opened, with_event, seat_with};
-ghost use Rattle.live_runner.specs.Offers.{offer};
+ghost use Rattle.live_rules.specs.Offers.{offer};
 ghost use Rattle.live_runner.specs.Received.{receipt};
 
-use crate::kinds::{actors, is_own};
-use crate::offering::{first_open, offer};
+use crate::kinds::is_own;
 use crate::receipt::Receipt;
 use crate::seat::Seat;
+use live_rules::{actors, first_open, offer};
 use machine::State;
 use places::{Items, Record};
 use scenario::{Event, Refusal, Setup, SetupRefusal, setup_refusal};
@@ -49,7 +49,7 @@ pub struct Live<L: Ledger> {
 impl<L: Ledger> Model for Live<L> {
     ghost use Rattle.std.specs.Prelude.{◌≡◌, ◌≤◌, vec_len, vec_capacity};
     ghost use Rattle.live_runner.specs.History.{History, Replays};
-    ghost use Rattle.live_runner.specs.Passing.{EndedBelow};
+    ghost use Rattle.live_rules.specs.Passing.{EndedBelow};
 
     ghost Value = { History };
 

@@ -3,7 +3,7 @@ ghost use Rattle.std.specs.Prelude.{◌≡◌, ◌≢◌, ◌≤◌, ℕ, Some, 
 ghost use Rattle.scenario.specs.Setups.{setup_refusal};
 ghost use Rattle.scenario.specs.declared.setup.Setup.{Setup};
 ghost use Rattle.scenario.specs.declared.setup.SetupRefusal.{SetupRefusal};
-ghost use Rattle.live_runner.specs.Actors.{actors};
+ghost use Rattle.live_rules.specs.Actors.{actors};
 ghost use Rattle.live_runner.specs.History.{InOrder, WorkInOrder, Whole, closed_of, all_receipts};
 ghost use Rattle.live_runner.specs.Received.{LeastTorn};
 ghost use Rattle.live_runner.specs.Turns.{HasPassed, HasWorked, AllPassed};
@@ -11,10 +11,10 @@ ghost use Rattle.live_runner.specs.Running.{HandlesInOrder, AllOfTurns};
 
 use crate::closed::Closed;
 use crate::finishing::finish;
-use crate::kinds::actors;
 use crate::lives::Live;
 use crate::seat::Seat;
 use crate::worker::{Gate, Rested, Worker};
+use live_rules::{LiveFault, actors};
 use scenario::{Setup, SetupRefusal};
 use std::alloc::Global;
 use std::marker::Brand;
@@ -24,33 +24,6 @@ use std::sync::{Mutex, Wait};
 use std::thread;
 use std::thread::{Promise, PromisedHandle, Scope, Threads};
 use std::time::Clock;
-
-/// Why a live run was not closed.
-#[derive(Drop)]
-pub enum LiveFault {
-    /// The setup is refused. An allocation failure, or a thread that can't be started, is reported
-    /// as `SetupRefusal::Memory`.
-    Setup(SetupRefusal),
-    /// This actor's receipts differ from its events in the trace.
-    Torn(u32),
-    /// The lock returned a run of another setup or number of actors: this one.
-    Strange(Setup, u32),
-}
-
-impl LiveFault {
-    ghost use Rattle.live_runner.specs.Numbers.{fault_number};
-
-    /// Returns the fault's number, from 1 to 3.
-    pub fn number(&self) -> u32
-        ensures { result ≡ fault_number self.now }
-    {
-        match self {
-            LiveFault::Setup(_) => 1,
-            LiveFault::Torn(_) => 2,
-            LiveFault::Strange(_, _) => 3,
-        }
-    }
-}
 
 /// Runs a program with one thread per actor, each of which takes `turns` turns, and closes the run.
 /// `kernel` is the number of kernel workers.

@@ -4,8 +4,8 @@ use Rattle.std.specs.Prelude.{IfErr}
 use Rattle.scenario.specs.declared.setup.Setup.{Setup}
 use Rattle.scenario.specs.declared.setup.SetupRefusal.{SetupRefusal}
 use Rattle.scenario.specs.declared.setup.SetupRefusal.TheVariants.{Memory as OutOfMemory}
-use Rattle.live_runner.specs.declared.running.LiveFault.{LiveFault}
-use Rattle.live_runner.specs.declared.running.LiveFault.TheVariants as live
+use Rattle.live_rules.specs.declared.faults.LiveFault.{LiveFault}
+use Rattle.live_rules.specs.declared.faults.LiveFault.TheVariants as live
 use Rattle.live_sessions.specs.Living.{IsOfRunning}
 
 no_start : (setup : Setup) (count : ℕ) (e : LiveFault) → ((n : SetupRefusal) → e ≡ live.Setup n → n ≡ OutOfMemory) → ((s : Setup) (k : ℕ) → e ≡ live.Strange s k → s ≡ setup → k ≢ count) → IsOfRunning setup count e

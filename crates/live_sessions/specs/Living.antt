@@ -3,8 +3,8 @@ use Rattle.std.specs.Prelude.{◌≡◌, ◌≢◌, ℕ, List, [], ◌∷◌, Ok
 use Rattle.scenario.specs.declared.setup.Setup.{Setup}
 use Rattle.scenario.specs.declared.setup.SetupRefusal.TheVariants.{Memory as OutOfMemory}
 use Rattle.live_runner.specs.Actors.{actors}
-use Rattle.live_runner.specs.declared.running.LiveFault.{LiveFault}
-use Rattle.live_runner.specs.declared.running.LiveFault.TheVariants as live
+use Rattle.live_rules.specs.declared.faults.LiveFault.{LiveFault}
+use Rattle.live_rules.specs.declared.faults.LiveFault.TheVariants as live
 use Rattle.script.specs.Scripts.{Scenario, Reads}
 use Rattle.debug_server.specs.declared.faults.Fault.{Fault as Failure}
 use Rattle.debug_server.specs.declared.faults.Fault.TheVariants.{File, Run, Live}

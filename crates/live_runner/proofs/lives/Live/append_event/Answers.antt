@@ -5,7 +5,7 @@ use Rattle.inverse_log.proofs.Runs.{why_refused}
 use Rattle.machine.specs.Runs.{Link}
 use Rattle.machine.specs.Steps.{refusal}
 use Rattle.live_runner.specs.History.{History}
-use Rattle.live_runner.proofs.EndedRows.{below_after}
+use Rattle.live_rules.proofs.EndedRows.{below_after}
 use Rattle.live_runner.proofs.AppendingLemmas.{appends, counted_more}
 use Rattle.live_runner.proofs.lives.Live.append_event.Goals as goal
 

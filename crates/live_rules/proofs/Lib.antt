@@ -1,0 +1,5 @@
+pub mod Leasts
+pub mod Rows
+pub mod OfferLemmas
+pub mod Ends
+pub mod EndedRows

@@ -1,5 +1,0 @@
-use Rattle.live_runner.proofs.OfferLemmas.{expired_due}
-use Rattle.live_runner.proofs.laws.due_rows_expired.Goals as goal
-
-pub returns : goal.returns
-returns c = expired_due

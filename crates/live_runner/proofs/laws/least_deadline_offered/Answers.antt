@@ -1,5 +1,0 @@
-use Rattle.live_runner.proofs.OfferLemmas.{deadline_least}
-use Rattle.live_runner.proofs.laws.least_deadline_offered.Goals as goal
-
-pub returns : goal.returns
-returns c = deadline_least
