@@ -1,5 +1,5 @@
 -- Parsing a command line, or finding its fault.
-use Rattle.std.specs.Prelude.{ℕ, ◌+◌, ◌-◌, ◌==◌, List, [], ◌∷◌, length, take, drop, count_by, codes, nat_lt, Bool, if◌then◌else◌, Option, Some, None, Result, Ok, Err}
+use Rattle.std.specs.Prelude.{ℕ, ◌+◌, ◌-◌, ◌==◌, List, [], ◌∷◌, length, take, drop, count_by, codes, nat_lt, Bool, if◌then◌else◌, Option, Some, None, Result, Ok, Err, ok_or}
 use Rattle.std.specs.List.{slice_split, position}
 use Rattle.std.specs.Str.{bytes_eq}
 use Rattle.places.specs.declared.place.Place.{Place}
@@ -19,6 +19,22 @@ use Rattle.commands.specs.Values.{value_of}
 -- The words of a line, each separated by one space.
 abbrev pub words_of : List ℕ → List (List ℕ)
 words_of line = slice_split (λ b. b == 32) line
+
+-- The word of a command.
+abbrev pub word_of : Verb → List ℕ
+word_of verb.Where = codes "where"
+word_of verb.Show = codes "show"
+word_of verb.Goto = codes "goto"
+word_of verb.Back = codes "back"
+word_of verb.On = codes "on"
+word_of verb.Watch = codes "watch"
+word_of verb.Break = codes "break"
+word_of verb.Unwatch = codes "unwatch"
+word_of verb.Cont = codes "cont"
+word_of verb.Rcont = codes "rcont"
+word_of verb.Sync = codes "sync"
+word_of verb.Quit = codes "quit"
+word_of verb.Other = []
 
 -- The command that a word names.
 abbrev pub verb_of : List ℕ → Verb
@@ -41,6 +57,16 @@ verb_of word =
 abbrev pub numbered : Option ℕ → (ℕ → Command) → Result Command CommandFault
 numbered None f = Err fault.Number
 numbered (Some n) f = Ok (f n)
+
+-- The number that is the only word.
+abbrev pub only_number : List (List ℕ) → Result ℕ CommandFault
+only_number (n ∷ []) = ok_or (number_of n) fault.Number
+only_number _ = Err fault.Command
+
+-- A command that is its verb alone.
+abbrev pub alone : Command → List (List ℕ) → Result Command CommandFault
+alone c [] = Ok c
+alone c _ = Err fault.Command
 
 -- The fault for words that don't name a place.
 abbrev pub fault_at : PlaceFault → CommandFault

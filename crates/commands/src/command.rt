@@ -1,7 +1,7 @@
 //! Parses command lines.
 ghost use Rattle.std.specs.Prelude.{◌≡◌, map, Ok, IfOk};
 ghost use Rattle.scenario.specs.Names.{place_named};
-ghost use Rattle.commands.specs.Commands.{placed, command_of_words, command_of};
+ghost use Rattle.commands.specs.Commands.{alone, only_number, placed, command_by, command_of_words, command_of};
 
 use crate::breaks::parse_break;
 use crate::verb::{Verb, parse_verb};
@@ -74,27 +74,55 @@ fn parse_watch(setup: &Setup, name: &[&[u8]]) -> Result<Command, CommandFault>
     Ok(Command::Watch(parse_place(setup, name)?))
 }
 
+// Returns a command that is its verb alone.
+fn alone(words: &[&[u8]], command: Command) -> Result<Command, CommandFault>
+    ensures { result ≡ alone command (map (λ w. w.now) words.now) }
+{
+    if words.is_empty() {
+        Ok(command)
+    } else {
+        Err(CommandFault::Command)
+    }
+}
+
+// Parses the number that is the only word after a verb.
+fn parse_number(words: &[&[u8]]) -> Result<u32, CommandFault>
+    ensures { result ≡ only_number (map (λ w. w.now) words.now) }
+{
+    match words {
+        [word] => read_number(word).ok_or(CommandFault::Number),
+        _ => Err(CommandFault::Command),
+    }
+}
+
+// Parses the words after a verb.
+fn parse_rest(setup: &Setup, verb: Verb, words: &[&[u8]]) -> Result<Command, CommandFault>
+    ensures { result ≡ command_by setup.now verb (map (λ w. w.now) words.now) }
+{
+    match verb {
+        Verb::Where => alone(words, Command::Where),
+        Verb::Show => parse_show(setup, words),
+        Verb::Goto => parse_number(words).map(Command::Goto),
+        Verb::Back => parse_number(words).map(Command::Back),
+        Verb::On => parse_number(words).map(Command::On),
+        Verb::Watch => parse_watch(setup, words),
+        Verb::Break => parse_break(setup, words),
+        Verb::Unwatch => alone(words, Command::Unwatch),
+        Verb::Cont => alone(words, Command::Cont),
+        Verb::Rcont => alone(words, Command::Rcont),
+        Verb::Sync => alone(words, Command::Sync),
+        Verb::Quit => alone(words, Command::Quit),
+        Verb::Other => Err(CommandFault::Command),
+    }
+}
+
 // Parses the words of a command.
 fn parse_command(setup: &Setup, words: &[&[u8]]) -> Result<Command, CommandFault>
     ensures { result ≡ command_of_words setup.now (map (λ w. w.now) words.now) }
 {
-    let Some((first, rest)) = words.split_first() else {
-        return Err(CommandFault::Command);
-    };
-    match (parse_verb(first), rest) {
-        (Verb::Where, []) => Ok(Command::Where),
-        (Verb::Quit, []) => Ok(Command::Quit),
-        (Verb::Show, name) => parse_show(setup, name),
-        (Verb::Watch, name) => parse_watch(setup, name),
-        (Verb::Break, words) => parse_break(setup, words),
-        (Verb::Unwatch, []) => Ok(Command::Unwatch),
-        (Verb::Cont, []) => Ok(Command::Cont),
-        (Verb::Rcont, []) => Ok(Command::Rcont),
-        (Verb::Sync, []) => Ok(Command::Sync),
-        (Verb::Goto, [n]) => Ok(Command::Goto(read_number(n).ok_or(CommandFault::Number)?)),
-        (Verb::Back, [n]) => Ok(Command::Back(read_number(n).ok_or(CommandFault::Number)?)),
-        (Verb::On, [n]) => Ok(Command::On(read_number(n).ok_or(CommandFault::Number)?)),
-        _ => Err(CommandFault::Command),
+    match words {
+        [first, rest @ ..] => parse_rest(setup, parse_verb(first), rest),
+        [] => Err(CommandFault::Command),
     }
 }
 

@@ -1,6 +1,7 @@
 //! The first word of a line.
 ghost use Rattle.std.specs.Prelude.{◌≡◌};
-ghost use Rattle.commands.specs.Commands.{verb_of};
+ghost use Rattle.std.specs.Str.{bytes_eq};
+ghost use Rattle.commands.specs.Commands.{word_of, verb_of};
 
 /// The command that the first word names.
 #[derive(Clone, Copy)]
@@ -20,34 +21,58 @@ pub enum Verb {
     Other,
 }
 
+// The verbs that have a word.
+const VERBS: [Verb; 12] = [
+    Verb::Where,
+    Verb::Show,
+    Verb::Goto,
+    Verb::Back,
+    Verb::On,
+    Verb::Watch,
+    Verb::Break,
+    Verb::Unwatch,
+    Verb::Cont,
+    Verb::Rcont,
+    Verb::Sync,
+    Verb::Quit,
+];
+
+impl Verb {
+    // Returns its word. `Other` has none.
+    fn word(self) -> &'static str
+        ensures { result.now ≡ word_of self }
+    {
+        match self {
+            Verb::Where => "where",
+            Verb::Show => "show",
+            Verb::Goto => "goto",
+            Verb::Back => "back",
+            Verb::On => "on",
+            Verb::Watch => "watch",
+            Verb::Break => "break",
+            Verb::Unwatch => "unwatch",
+            Verb::Cont => "cont",
+            Verb::Rcont => "rcont",
+            Verb::Sync => "sync",
+            Verb::Quit => "quit",
+            Verb::Other => "",
+        }
+    }
+
+    fn is_named(self, word: &[u8]) -> bool
+        ensures { result ≡ bytes_eq word.now (word_of self) }
+    {
+        word == self.word().as_bytes()
+    }
+}
+
+// Returns the verb that a word names.
 pub(crate) fn parse_verb(word: &[u8]) -> Verb
     ensures { result ≡ verb_of word.now }
 {
-    if word == b"where".as_slice() {
-        Verb::Where
-    } else if word == b"show".as_slice() {
-        Verb::Show
-    } else if word == b"goto".as_slice() {
-        Verb::Goto
-    } else if word == b"back".as_slice() {
-        Verb::Back
-    } else if word == b"on".as_slice() {
-        Verb::On
-    } else if word == b"watch".as_slice() {
-        Verb::Watch
-    } else if word == b"break".as_slice() {
-        Verb::Break
-    } else if word == b"unwatch".as_slice() {
-        Verb::Unwatch
-    } else if word == b"cont".as_slice() {
-        Verb::Cont
-    } else if word == b"rcont".as_slice() {
-        Verb::Rcont
-    } else if word == b"sync".as_slice() {
-        Verb::Sync
-    } else if word == b"quit".as_slice() {
-        Verb::Quit
-    } else {
-        Verb::Other
-    }
+    VERBS
+        .iter()
+        .find(|verb| verb.is_named(word))
+        .copied()
+        .unwrap_or(Verb::Other)
 }

@@ -1,70 +1,112 @@
 //! The result of a search as JSON.
 
-use crate::exploration::{Exploration, SeenKind};
+use crate::exploration::{Discovery, Exploration, SeenKind};
 use crate::schedule::{EventItem, items_of};
-use scenario::Event;
-use serde::Serialize;
+use serde::{Described, Serialize, Serializer};
 use std::alloc::{AllocError, Global};
 
-/// The result of a search, as `explore --json` prints it. What there is only with a discovery is
-/// null without one.
-#[derive(Drop, Serialize)]
-struct ExplorationObject<'a> {
-    found: bool,
-    /// Null also if the search was for a place and its value, as `text` is then.
-    kind: Option<&'static str>,
-    moment: Option<u32>,
-    run: Option<u32>,
-    seed: u64,
-    text: Option<&'a str>,
-    runs: u64,
-    events: u64,
-    seen: &'a [SeenKind],
-    length: Option<u32>,
-    shrunk: Option<usize>,
-    schedule: Option<Vec<EventItem>>,
-    out: Option<&'a str>,
+/// The value of a member of the object.
+#[derive(Clone, Copy, Serialize)]
+#[serde(untagged)]
+enum Member<'a> {
+    Null,
+    Flag(bool),
+    Number(u64),
+    Text(&'a str),
+    Kinds(&'a [SeenKind]),
+    Items(&'a [EventItem]),
 }
 
-/// Returns a value as JSON on one line.
+/// The members of the object with their names, in the order in which `explore --json` prints them.
+type Members<'a> = [(&'static str, Member<'a>); 13];
+
+/// The result of a search.
+#[derive(Clone, Copy)]
+struct ExplorationObject<'a>(&'a Members<'a>);
+
+impl Described for ExplorationObject<'_> {}
+
+impl Serialize for ExplorationObject<'_> {
+    fn serialize<S: Serializer>(&self, out: &mut S) -> Result<(), S::Error> {
+        out.begin_map(Some(self.0.len()))?;
+        for (name, member) in self.0 {
+            out.key(name)?;
+            member.serialize(out)?;
+        }
+        out.end_map()
+    }
+}
+
+/// Returns a value as JSON on one line, with the end of the line.
 pub(crate) fn line_of<T: Serialize>(alloc: Global, value: &T) -> Result<String, AllocError> {
-    match serde_json::to_string(alloc, value) {
-        Ok(json) => Ok(json),
-        Err(_) => Err(AllocError),
+    let Ok(mut json) = serde_json::to_string(alloc, value) else {
+        return Err(AllocError);
+    };
+    json.push('\n')?;
+    Ok(json)
+}
+
+fn optional(text: Option<&str>) -> Member<'_> {
+    match text {
+        Some(text) => Member::Text(text),
+        None => Member::Null,
     }
 }
 
-// Returns the items of a schedule, if there is one.
-fn schedule_of(
-    alloc: Global,
-    schedule: Option<&[Event]>,
-) -> Result<Option<Vec<EventItem>>, AllocError> {
-    match schedule {
-        Some(events) => Ok(Some(items_of(alloc, events)?)),
-        None => Ok(None),
-    }
+// Returns the members if the search found something. Only a finding has a kind and sentences.
+fn found_members<'a>(
+    search: &Exploration<'a>,
+    found: &Discovery<'a>,
+    items: &'a [EventItem],
+) -> Members<'a> {
+    let sentences = match found.kind {
+        Some(_) => Member::Text(found.text),
+        None => Member::Null,
+    };
+    [
+        ("found", Member::Flag(true)),
+        ("kind", optional(found.kind)),
+        ("moment", Member::Number(u64::from(found.moment))),
+        ("run", Member::Number(u64::from(found.run))),
+        ("seed", Member::Number(search.seed)),
+        ("text", sentences),
+        ("runs", Member::Number(search.runs)),
+        ("events", Member::Number(search.events)),
+        ("seen", Member::Kinds(search.seen)),
+        ("length", Member::Number(u64::from(found.length))),
+        ("shrunk", Member::Number(found.schedule.len() as u64)),
+        ("schedule", Member::Items(items)),
+        ("out", optional(found.out)),
+    ]
+}
+
+// Returns the members if the search found nothing.
+fn nothing_members<'a>(search: &Exploration<'a>) -> Members<'a> {
+    [
+        ("found", Member::Flag(false)),
+        ("kind", Member::Null),
+        ("moment", Member::Null),
+        ("run", Member::Null),
+        ("seed", Member::Number(search.seed)),
+        ("text", Member::Null),
+        ("runs", Member::Number(search.runs)),
+        ("events", Member::Number(search.events)),
+        ("seen", Member::Kinds(search.seen)),
+        ("length", Member::Null),
+        ("shrunk", Member::Null),
+        ("schedule", Member::Null),
+        ("out", Member::Null),
+    ]
 }
 
 /// Returns the result of a search as an object of JSON on one line.
 pub fn json_of(alloc: Global, exploration: &Exploration<'_>) -> Result<String, AllocError> {
-    let found = exploration.discovery;
-    let schedule = found.map(|it| it.schedule);
-    let object = ExplorationObject {
-        found: found.is_some(),
-        kind: found.and_then(|it| it.kind),
-        moment: found.map(|it| it.moment),
-        run: found.map(|it| it.run),
-        seed: exploration.seed,
-        text: found.and_then(|it| it.kind.map(|_| it.text)),
-        runs: exploration.runs,
-        events: exploration.events,
-        seen: exploration.seen,
-        length: found.map(|it| it.length),
-        shrunk: schedule.map(|events| events.len()),
-        schedule: schedule_of(alloc, schedule)?,
-        out: found.and_then(|it| it.out),
-    };
-    let mut line = line_of(alloc, &object)?;
-    line.push('\n')?;
-    Ok(line)
+    match &exploration.discovery {
+        Some(found) => {
+            let items = items_of(alloc, found.schedule)?;
+            let members = found_members(exploration, found, &items);
+            line_of(alloc, &ExplorationObject(&members))
+        }
+        None => line_of(alloc, &ExplorationObject(&nothing_members(exploration))),
+    }
 }

@@ -1,6 +1,6 @@
 //! Paths as words of a shell.
 
-use std::alloc::AllocError;
+use std::alloc::{AllocError, Global};
 
 // Returns whether a shell takes a character as it is.
 fn is_plain(character: char) -> bool {
@@ -11,26 +11,14 @@ fn is_plain(character: char) -> bool {
         )
 }
 
-// Appends a path in single quotes. A quote in it is outside of them, after a backslash.
-fn add_quoted(out: &mut String, folder: &str, path: &str) -> Result<(), AllocError> {
-    out.push('\'')?;
-    out.push_str(folder)?;
-    for (index, part) in path.split('\'').enumerate() {
-        if index > 0 {
-            out.push_str("'\\''")?;
-        }
-        out.push_str(part)?;
-    }
-    out.push('\'')
-}
-
-/// Appends a path as one word, in quotes where a shell needs them. A path that begins with a hyphen
-/// gets `./`, so that it is no option and not standard input.
-pub(crate) fn add_path(out: &mut String, path: &str) -> Result<(), AllocError> {
+/// Returns a path as one word: in single quotes where a shell needs them, and a quote in it is
+/// outside of them, after a backslash. A path that begins with a hyphen gets `./`, so that it is
+/// no option and not standard input.
+pub(crate) fn word_of(alloc: Global, path: &str) -> Result<String, AllocError> {
     let folder = if path.starts_with('-') { "./" } else { "" };
     if path.chars().all(is_plain) {
-        out.push_str(folder)?;
-        return out.push_str(path);
+        return format!(in alloc; "{folder}{path}");
     }
-    add_quoted(out, folder, path)
+    let quoted = path.replace(alloc, '\'', "'\\''")?;
+    format!(in alloc; "'{folder}{quoted}'")
 }

@@ -3,7 +3,7 @@
 use crate::exploration::{Discovery, Exploration, SeenKind};
 use crate::json::line_of;
 use crate::schedule::items_of;
-use crate::shell::add_path;
+use crate::shell::word_of;
 use std::alloc::{AllocError, Global};
 
 /// The fewest runs for which the odds of missing a schedule are printed.
@@ -26,43 +26,44 @@ fn add_seen(alloc: Global, out: &mut String, seen: &[SeenKind]) -> Result<(), Al
     Ok(())
 }
 
-// Appends what was found, and where, with its sentences.
-fn add_headline(
-    alloc: Global,
-    out: &mut String,
-    seed: u64,
-    found: &Discovery<'_>,
-) -> Result<(), AllocError> {
+// Returns what was found, and where, with its sentences.
+fn headline(alloc: Global, seed: u64, found: &Discovery<'_>) -> Result<String, AllocError> {
     let Discovery {
         name,
         moment,
         run,
+        text,
         ..
     } = found;
-    let line = format!(in alloc; "found {name} at {moment} in run {run} of seed {seed}\n")?;
-    out.push_str(line.as_str())?;
-    if !found.text.is_empty() {
-        let text = found.text;
-        out.push_str(format!(in alloc; "  {text}\n")?.as_str())?;
-    }
-    out.push('\n')
+    let (before, after) = if text.is_empty() {
+        ("", "")
+    } else {
+        ("  ", "\n")
+    };
+    format!(in alloc;
+        "found {name} at {moment} in run {run} of seed {seed}\n{before}{text}{after}\n"
+    )
 }
 
-// Appends the schedule, or the subcommands for the script that has it.
-fn add_schedule(alloc: Global, out: &mut String, found: &Discovery<'_>) -> Result<(), AllocError> {
+// Returns the schedule, or the subcommands for the script that has it.
+fn schedule_text(alloc: Global, found: &Discovery<'_>) -> Result<String, AllocError> {
     let Some(path) = found.out else {
-        let items = items_of(alloc, found.schedule)?;
-        out.push_str(line_of(alloc, &items)?.as_str())?;
-        return out.push('\n');
+        return line_of(alloc, &items_of(alloc, found.schedule)?);
     };
-    if let Some(kind) = found.kind {
-        out.push_str("explain ")?;
-        add_path(out, path)?;
-        out.push_str(format!(in alloc; " --kind {kind}\n")?.as_str())?;
+    let word = word_of(alloc, path)?;
+    match found.kind {
+        Some(kind) => format!(in alloc; "explain {word} --kind {kind}\nwalk {word}\n"),
+        None => format!(in alloc; "walk {word}\n"),
     }
-    out.push_str("walk ")?;
-    add_path(out, path)?;
-    out.push('\n')
+}
+
+// Returns the number of events before and after the shrinking, and the schedule.
+fn shrunk_text(alloc: Global, found: &Discovery<'_>) -> Result<String, AllocError> {
+    let length = found.length;
+    let noun = ending(u64::from(length));
+    let shrunk = found.schedule.len();
+    let schedule = schedule_text(alloc, found)?;
+    format!(in alloc; "schedule {length} event{noun}, shrunk to {shrunk}\n{schedule}")
 }
 
 // Returns the text of a search that found something.
@@ -71,23 +72,16 @@ fn discovery_text(
     search: &Exploration<'_>,
     found: &Discovery<'_>,
 ) -> Result<String, AllocError> {
-    let mut out = String::new(alloc);
-    add_headline(alloc, &mut out, search.seed, found)?;
+    let headline = headline(alloc, search.seed, found)?;
     let Exploration { runs, events, .. } = search;
-    out.push_str(format!(in alloc; "runs {runs}, events {events}\n")?.as_str())?;
+    let mut out = format!(in alloc; "{headline}runs {runs}, events {events}\n")?;
     add_seen(alloc, &mut out, search.seen)?;
-    let length = found.length;
-    let noun = ending(u64::from(length));
-    let shrunk = found.schedule.len();
-    let line = format!(in alloc; "schedule {length} event{noun}, shrunk to {shrunk}\n")?;
-    out.push_str(line.as_str())?;
-    add_schedule(alloc, &mut out, found)?;
+    out.push_str(shrunk_text(alloc, found)?.as_str())?;
     Ok(out)
 }
 
 // Returns the text of a search that found nothing.
 fn nothing_text(alloc: Global, search: &Exploration<'_>) -> Result<String, AllocError> {
-    let mut out = String::new(alloc);
     let Exploration {
         seed,
         runs,
@@ -95,10 +89,9 @@ fn nothing_text(alloc: Global, search: &Exploration<'_>) -> Result<String, Alloc
         ..
     } = search;
     let noun = ending(*runs);
-    let line = format!(in alloc;
+    let mut out = format!(in alloc;
         "nothing found in {runs} run{noun} of seed {seed}, events {events}\n"
     )?;
-    out.push_str(line.as_str())?;
     add_seen(alloc, &mut out, search.seen)?;
     if *runs >= FEWEST_RUNS {
         let odds = *runs / FEWEST_RUNS;

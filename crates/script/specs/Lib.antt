@@ -9,3 +9,4 @@ pub mod Instructions
 pub mod Events
 pub mod Scripts
 pub mod EventTexts
+pub mod Groups

@@ -3,6 +3,7 @@ ghost use Rattle.std.specs.Prelude.{◌≡◌, ◌≤◌, map, length};
 ghost use Rattle.serde_json.specs.View.{view};
 ghost use Rattle.script.specs.Faults.{Gives};
 ghost use Rattle.script.specs.Lists.{each};
+ghost use Rattle.script.specs.declared.event.EventForm.TheVariants.{Finish};
 ghost use Rattle.script.specs.Events.{event_of_number, choice_by, choice_words, event_by, event_words, event_form, choice_in_range, event_in_range, event_at};
 
 use crate::fault::{Key, ScriptFault};
@@ -117,17 +118,23 @@ fn choice_in_range(form: &ChoiceForm) -> Option<Choice>
     }
 }
 
+fn finish_in_range(row: Whole, choice: &ChoiceForm) -> Option<Event>
+    ensures { result ≡ event_in_range (Finish row choice.now) }
+{
+    Some(Event::Finish(word(row)?, choice_in_range(choice)?))
+}
+
 fn event_in_range(form: &EventForm) -> Option<Event>
     ensures { result ≡ event_in_range form.now }
 {
     match form {
-        EventForm::Step(n) => Some(Event::Step(word(*n)?)),
-        EventForm::Take(n) => Some(Event::Take(word(*n)?)),
+        EventForm::Step(n) => word(*n).map(Event::Step),
+        EventForm::Take(n) => word(*n).map(Event::Take),
         EventForm::Sleep => Some(Event::Sleep),
-        EventForm::Issue(n) => Some(Event::Issue(word(*n)?)),
-        EventForm::Finish(n, choice) => Some(Event::Finish(word(*n)?, choice_in_range(choice)?)),
-        EventForm::Expire(n) => Some(Event::Expire(word(*n)?)),
-        EventForm::Tick(n) => Some(Event::Tick(long(*n)?)),
+        EventForm::Issue(n) => word(*n).map(Event::Issue),
+        EventForm::Finish(row, choice) => finish_in_range(*row, choice),
+        EventForm::Expire(n) => word(*n).map(Event::Expire),
+        EventForm::Tick(n) => long(*n).map(Event::Tick),
     }
 }
 

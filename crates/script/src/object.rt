@@ -1,5 +1,7 @@
 //! The objects of a script.
-ghost use Rattle.std.specs.Prelude.{◌≡◌, ◌<◌, ◌≤◌, ◌+◌, [], map, option_map, length, IfOk};
+ghost use Rattle.std.specs.Prelude.{◌≡◌, ◌<◌, ◌≤◌, ◌+◌, ◌++◌, ◌∷◌, [], false, map, option_map, length, IfOk, IfErr};
+ghost use Rattle.std.specs.List.{list_any};
+ghost use Rattle.scenario.specs.Setups.{is_named};
 ghost use Rattle.serde_json.specs.View.{view};
 ghost use Rattle.script.specs.Faults.{Gives, shaped};
 ghost use Rattle.script.specs.Lists.{folded};
@@ -125,6 +127,46 @@ fn is_new_name(before: &NamedObjects<'_>, name: &str) -> bool
     is_name(name.as_bytes()) && !before.has(name)
 }
 
+// Returns an object with a copy of its name. An error is `ScriptFault::Memory`.
+fn with_name(alloc: Global, name: &str, contents: Contents) -> Result<Object, ScriptFault>
+    ensures ok { IfOk result (λ o. o ≡ record { name = name.now; contents = contents }) }
+    ensures err { IfErr result (λ e. e ≡ ScriptFault.Memory) }
+{
+    match Vec::from_slice(alloc, name.as_bytes()) {
+        Ok(name) => Ok(Object {
+            name: Items::from_vec(name),
+            contents,
+        }),
+        Err(_) => Err(ScriptFault::Memory),
+    }
+}
+
+// Reads the object at an index of the list, and returns it with its name.
+fn read_object<'a>(
+    alloc: Global,
+    before: &NamedObjects<'_>,
+    index: u32,
+    value: &'a Value,
+) -> Result<(&'a str, Object), ScriptFault>
+    ensures next { Gives (λ found. before.now ++ found.1 ∷ []) result
+        (object_at before.now index (view value.now)) }
+    ensures same { IfOk result (λ found. found.1.name ≡ found.0.now) }
+    ensures new { IfOk result (λ found. list_any (is_named found.1.name) before.now ≡ false) }
+{
+    let path = item_path(Key::Objects, index);
+    let Found { name, contents } = object_form(alloc, path, value)?;
+    if !contents_keep_limits(&contents) {
+        return Err(ScriptFault::Limit(path));
+    }
+    if !is_new_name(before, name) {
+        return Err(ScriptFault::Range(path));
+    }
+    match contents_in_range(contents) {
+        Some(contents) => Ok((name, with_name(alloc, name, contents)?)),
+        None => Err(ScriptFault::Range(path)),
+    }
+}
+
 /// Reads the object at an index of the list, and appends it to the earlier ones.
 pub fn with_object<'a>(
     alloc: Global,
@@ -136,25 +178,8 @@ pub fn with_object<'a>(
     ensures next { Gives (λ n. n) result (object_at before.entry index (view value.now)) }
     ensures len { IfOk result (λ n. length n ≡ length before.entry + 1) }
 {
-    let path = item_path(Key::Objects, index);
-    let found = object_form(alloc, path, value)?;
-    if !contents_keep_limits(&found.contents) {
-        return Err(ScriptFault::Limit(path));
-    }
-    if !is_new_name(&before, found.name) {
-        return Err(ScriptFault::Range(path));
-    }
-    let Some(contents) = contents_in_range(found.contents) else {
-        return Err(ScriptFault::Range(path));
-    };
-    let Ok(name) = Vec::from_slice(alloc, found.name.as_bytes()) else {
-        return Err(ScriptFault::Memory);
-    };
-    let object = Object {
-        name: Items::from_vec(name),
-        contents,
-    };
-    before.with(found.name, object)
+    let (name, object) = read_object(alloc, &before, index, value)?;
+    before.with(name, object)
 }
 
 /// Reads the objects of a list, up to the first fault.

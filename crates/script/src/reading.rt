@@ -1,10 +1,13 @@
 //! Reads a script, key by key.
-ghost use Rattle.std.specs.Prelude.{◌≡◌, ◌≢◌, ◌<◌, ◌⊎◌, length, option_map, IfOk, IfErr};
+ghost use Rattle.std.specs.Prelude.{◌≡◌, ◌≢◌, ◌<◌, ◌⊎◌, length, option_map, Ok, IfOk, IfErr};
 ghost use Rattle.serde_json.specs.View.{view};
-ghost use Rattle.script.specs.Faults.{Gives};
+ghost use Rattle.script.specs.Faults.{Fails, Gives, at_key};
+ghost use Rattle.script.specs.Groups.{AreHoldings, AreNumbers};
+ghost use Rattle.script.specs.Lists.{keyed};
 ghost use Rattle.script.specs.Memory.{memory_of};
 ghost use Rattle.script.specs.Objects.{objects_of, fds_of};
-ghost use Rattle.script.specs.Scripts.{entries_of, cq_of, flag_of, base_of, threads_of, schedule_of, script_of, limit, Reads, IsNoJson};
+ghost use Rattle.script.specs.declared.reading.Numbers.{Numbers};
+ghost use Rattle.script.specs.Scripts.{entries_of, cq_of, flag_of, base_of, threads_of, schedule_of, is_script_key, script_of, limit, Reads, IsNoJson};
 
 use crate::descriptor::read_descriptors;
 use crate::event::read_events;
@@ -16,12 +19,30 @@ use crate::number::number_between;
 use crate::object::read_object_list;
 use crate::parts::Script;
 use crate::threads::read_thread_list;
-use places::{Descriptor, Items};
+use places::{Descriptor, Items, Object};
 use scenario::{Event, Instruction, Setup, ring_size};
 use serde_json::Value;
 use std::alloc::Global;
 
 const LIMIT: usize = 8388608;
+
+/// The numbers and flags of a setup.
+#[derive(Clone, Copy)]
+pub struct Numbers {
+    pub entries: u32,
+    pub cq: Option<u32>,
+    pub sqpoll: bool,
+    pub submit_all: bool,
+    pub base: u32,
+}
+
+/// The memory, objects and descriptors of a setup.
+#[derive(Drop)]
+pub struct Holdings {
+    pub memory: Items<u8>,
+    pub objects: Items<Object>,
+    pub fds: Items<Descriptor>,
+}
 
 /// Reads the number of submission entries.
 pub fn read_entries(found: Option<&Value>) -> Result<u32, ScriptFault>
@@ -142,30 +163,63 @@ fn read_fds(
     Ok(Items::from_vec(descriptors))
 }
 
-// Reads a script from a JSON value.
-fn script_from(alloc: Global, value: &Value) -> Result<Script, ScriptFault>
-    ensures { Gives (λ s. s) result (script_of (view value.now)) }
+// Reads the numbers and flags of a setup.
+fn read_numbers(value: &Value) -> Result<Numbers, ScriptFault>
+    requires { keyed is_script_key (at_key Key.Document) (view value.now) ≡ Ok tt }
+    ensures numbers { IfOk result (λ n. AreNumbers (view value.now) n) }
+    ensures fault { IfErr result (λ e. script_of (view value.now) ≡ Err e) }
 {
-    script_object(value, key_path(Key::Document))?;
     let entries = read_entries(value.get("entries"))?;
     let cq = read_cq(entries, value.get("cq"))?;
     let sqpoll = read_flag(Key::Sqpoll, value.get("sqpoll"))?;
     let submit_all = read_flag(Key::SubmitAll, value.get("submit_all"))?;
     let base = read_base(value.get("base"))?;
-    let memory = read_memory(alloc, value.get("memory"))?;
-    let objects = read_objects(alloc, value.get("objects"))?;
-    let fds = read_fds(alloc, &objects, value.get("fds"))?;
-    let threads = read_threads(alloc, ring_size(entries), value.get("threads"))?;
-    let schedule = read_schedule(alloc, value.get("schedule"))?;
-    let setup = Setup {
+    Ok(Numbers {
         entries,
         cq,
         sqpoll,
         submit_all,
         base,
+    })
+}
+
+// Reads the memory, objects and descriptors of a setup, whose numbers come before them.
+fn read_holdings(alloc: Global, value: &Value) -> Result<Holdings, ScriptFault>
+    requires { keyed is_script_key (at_key Key.Document) (view value.now) ≡ Ok tt }
+    ensures holdings { IfOk result (λ h. AreHoldings (view value.now) h) }
+    ensures fault { IfErr result (λ e. (n : Numbers) → AreNumbers (view value.now) n
+        → Fails e (script_of (view value.now))) }
+{
+    let memory = read_memory(alloc, value.get("memory"))?;
+    let objects = read_objects(alloc, value.get("objects"))?;
+    let fds = read_fds(alloc, &objects, value.get("fds"))?;
+    let objects = objects.into_items();
+    Ok(Holdings {
         memory,
-        objects: objects.into_items(),
+        objects,
         fds,
+    })
+}
+
+// Reads a script from a JSON value.
+fn script_from(alloc: Global, value: &Value) -> Result<Script, ScriptFault>
+    ensures { Gives (λ s. s) result (script_of (view value.now)) }
+{
+    script_object(value, key_path(Key::Document))?;
+    let numbers = read_numbers(value)?;
+    let holdings = read_holdings(alloc, value)?;
+    let size = ring_size(numbers.entries);
+    let threads = read_threads(alloc, size, value.get("threads"))?;
+    let schedule = read_schedule(alloc, value.get("schedule"))?;
+    let setup = Setup {
+        entries: numbers.entries,
+        cq: numbers.cq,
+        sqpoll: numbers.sqpoll,
+        submit_all: numbers.submit_all,
+        base: numbers.base,
+        memory: holdings.memory,
+        objects: holdings.objects,
+        fds: holdings.fds,
         threads,
     };
     Ok(Script::new(setup, schedule))

@@ -8,7 +8,7 @@ ghost use Rattle.source_map.specs.Positions.{IsCursor, most_bytes, position_at};
 use crate::certifying::{is_event, is_instruction};
 use crate::cursor::{Cursor, MOST_BYTES, advance, text_start};
 use crate::map::{Item, SourceMap};
-use crate::scanning::spans_of;
+use crate::scanning::{Spans, spans_of};
 use crate::span::Span;
 use places::Items;
 use scenario::{Event, Instruction, ring_size};
@@ -156,6 +156,72 @@ fn is_before(ranges: &[Span], others: &[Span]) -> bool {
     }
 }
 
+// Locates the schedule, and the threads after it.
+fn locate_schedule_first(
+    alloc: Global,
+    text: &[u8],
+    spans: &Spans,
+    script: &Script,
+) -> Result<Option<SourceMap>, AllocError>
+    requires { length text.now ≤ most_bytes }
+    ensures { IfOk result (λ found. IfSome found (λ map. Maps text.now script.now map)) }
+{
+    let start = text_start(text);
+    let Some((schedule, after)) = locate_events(
+        alloc,
+        text,
+        start,
+        &spans.schedule,
+        script.schedule(),
+    )?
+    else {
+        return Ok(None);
+    };
+    let setup = script.setup();
+    let size = ring_size(setup.entries);
+    match locate_threads(
+        alloc,
+        text,
+        after,
+        size,
+        &spans.threads,
+        setup.threads.as_slice(),
+    )? {
+        Some((threads, _)) => Ok(Some(SourceMap { threads, schedule })),
+        None => Ok(None),
+    }
+}
+
+// Locates the threads, and the schedule after them.
+fn locate_threads_first(
+    alloc: Global,
+    text: &[u8],
+    spans: &Spans,
+    script: &Script,
+) -> Result<Option<SourceMap>, AllocError>
+    requires { length text.now ≤ most_bytes }
+    ensures { IfOk result (λ found. IfSome found (λ map. Maps text.now script.now map)) }
+{
+    let setup = script.setup();
+    let size = ring_size(setup.entries);
+    let start = text_start(text);
+    let Some((threads, after)) = locate_threads(
+        alloc,
+        text,
+        start,
+        size,
+        &spans.threads,
+        setup.threads.as_slice(),
+    )?
+    else {
+        return Ok(None);
+    };
+    match locate_events(alloc, text, after, &spans.schedule, script.schedule())? {
+        Some((schedule, _)) => Ok(Some(SourceMap { threads, schedule })),
+        None => Ok(None),
+    }
+}
+
 /// Returns where the items of a script are in its text, or `None` if a range doesn't read as its
 /// item. That happens only if the text isn't the script's.
 pub fn source_map(
@@ -169,28 +235,9 @@ pub fn source_map(
         return Ok(None);
     }
     let spans = spans_of(alloc, text)?;
-    let setup = script.setup();
-    let size = ring_size(setup.entries);
-    let threads = setup.threads.as_slice();
-    let start = text_start(text);
     if is_before(&spans.schedule, &spans.programs) {
-        let Some((schedule, after)) = locate_events(
-            alloc,
-            text,
-            start,
-            &spans.schedule,
-            script.schedule(),
-        )?
-        else {
-            return Ok(None);
-        };
-        let found = locate_threads(alloc, text, after, size, &spans.threads, threads)?;
-        return Ok(found.map(|(threads, _)| SourceMap { threads, schedule }));
+        locate_schedule_first(alloc, text, &spans, script)
+    } else {
+        locate_threads_first(alloc, text, &spans, script)
     }
-    let Some((threads, after)) = locate_threads(alloc, text, start, size, &spans.threads, threads)?
-    else {
-        return Ok(None);
-    };
-    let found = locate_events(alloc, text, after, &spans.schedule, script.schedule())?;
-    Ok(found.map(|(schedule, _)| SourceMap { threads, schedule }))
 }

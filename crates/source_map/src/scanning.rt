@@ -94,20 +94,23 @@ struct Scan {
     spans: Spans,
 }
 
+// The keys of a script, by their names.
+const KEYS: &[(&str, Key)] = &[
+    ("entries", Key::Entries),
+    ("cq", Key::Cq),
+    ("sqpoll", Key::Sqpoll),
+    ("submit_all", Key::SubmitAll),
+    ("base", Key::Base),
+    ("memory", Key::Memory),
+    ("objects", Key::Objects),
+    ("fds", Key::Fds),
+    ("threads", Key::Threads),
+    ("schedule", Key::Schedule),
+];
+
 fn key_named(word: &[u8]) -> Option<Key> {
-    match word {
-        b"entries" => Some(Key::Entries),
-        b"cq" => Some(Key::Cq),
-        b"sqpoll" => Some(Key::Sqpoll),
-        b"submit_all" => Some(Key::SubmitAll),
-        b"base" => Some(Key::Base),
-        b"memory" => Some(Key::Memory),
-        b"objects" => Some(Key::Objects),
-        b"fds" => Some(Key::Fds),
-        b"threads" => Some(Key::Threads),
-        b"schedule" => Some(Key::Schedule),
-        _ => None,
-    }
+    let (_, key) = KEYS.iter().find(|(name, _)| name.as_bytes() == word)?;
+    Some(*key)
 }
 
 // Returns the key that a range of the text spells, if a script has it. Only a string with escapes
