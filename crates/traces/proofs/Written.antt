@@ -1,8 +1,10 @@
 -- Lists that are written item by item.
-use Rattle.std.proofs.Common.{◌≡◌, ℕ, zero, suc, ◌<◌, ◌≤◌, Bool, true, List, [], ◌∷◌, ◌++◌, length, get_or, refl, sym, ap, subst, ◌∙◌, append_assoc, arith}
+use Rattle.std.proofs.Common.{◌≡◌, ℕ, zero, suc, ◌<◌, ◌≤◌, ◌+◌, Bool, true, List, [], ◌∷◌, ◌++◌, length, get_or, take, refl, sym, ap, subst, ◌∙◌, append_assoc, arith}
 use Rattle.std.specs.Prelude.{nat_lt, ◌&&◌}
-use Rattle.std.specs.List.{list_all, AllByRecursion}
+use Rattle.std.specs.List.{flat_map, list_all, AllByRecursion}
 use Rattle.std.proofs.lemmas.Bool.Decides.{nat_tests}
+use Rattle.std.proofs.lemmas.List.{flat_map_more, take_more}
+use Rattle.std.proofs.lemmas.List.Recursion.{and_at}
 use Rattle.std.proofs.lemmas.Bool.{and_parts, and_from}
 use Rattle.byteorder.specs.Endian.{little_bytes}
 use Rattle.entries.specs.declared.entry.Sqe.{Sqe}
@@ -17,6 +19,25 @@ use Rattle.traces.proofs.ObjectLaws.{within_most, end_there}
 pushed : {A : Type 0} (W : A → Type 0) (xs : List A) (x : A) → AllByRecursion W xs → W x → AllByRecursion W (xs ++ x ∷ [])
 pushed W [] x h w = (w, tt)
 pushed W (y ∷ ys) x h w = (h.0, pushed W ys x h.1 w)
+
+upto : {A : Type 0} (xs : List A) (i : ℕ) (x : A) → i < length xs → x ≡ get_or xs i x → take (i + 1) xs ≡ take i xs ++ x ∷ []
+upto {A} xs i x lt there = take_more xs i x lt ∙ ap (λ (y : A). take i xs ++ y ∷ []) (sym there)
+
+-- One more item that was written, after the number of items.
+pub item_written : {A : Type 0} (f : A → List ℕ) (xs : List A) (i : ℕ) (x : A) (front count out new : List ℕ) → i < length xs → x ≡ get_or xs i x
+    → out ≡ front ++ (count ++ flat_map f (take i xs)) → new ≡ out ++ f x → new ≡ front ++ (count ++ flat_map f (take (i + 1) xs))
+item_written f xs i x front count out new lt there before e =
+    let more : flat_map f (take i xs) ++ f x ≡ flat_map f (take (i + 1) xs) = flat_map_more f [] (take i xs) x ∙ ap (flat_map f) (sym (upto xs i x lt there)) in
+    e ∙ ap (λ (t : List ℕ). t ++ f x) before ∙ append_assoc front (count ++ flat_map f (take i xs)) (f x)
+    ∙ ap (λ (t : List ℕ). front ++ t) (append_assoc count (flat_map f (take i xs)) (f x) ∙ ap (λ (t : List ℕ). count ++ t) more)
+
+-- One more item whose numbers fit.
+pub item_fits : {A : Type 0} (W : A → Type 0) (xs : List A) (i : ℕ) (x : A) → i < length xs → x ≡ get_or xs i x → AllByRecursion W (take i xs) → W x → AllByRecursion W (take (i + 1) xs)
+item_fits W xs i x lt there before w = rw (upto xs i x lt there) (pushed W (take i xs) x before w)
+
+-- An item passes the test that all items pass.
+pub item_kept : {A : Type 0} (p : A → Bool) (xs : List A) (i : ℕ) (x : A) → i < length xs → x ≡ get_or xs i x → list_all p xs ≡ true → p x ≡ true
+item_kept {A} p xs i x lt there all = subst (λ (y : A). p y ≡ true) (sym there) (and_at (list_all p) p refl (λ _ _. refl) xs i x lt all)
 
 -- Each item passes the test after the items before it.
 pub kept_with_prefix : (keeps : List Object → Object → Bool) (xs before : List Object) (i : ℕ) (x : Object) → i < length xs → x ≡ get_or xs i x → all_with_prefix keeps before xs ≡ true

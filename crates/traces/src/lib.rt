@@ -38,12 +38,12 @@
 //! (address u32, list of bytes), 4 `Enter` (three u32), 5 `Reap`, 6 `Close` (i32).
 #![tactic(auto)]
 
-mod cursor;
 mod event;
 mod fault;
 mod fields;
 pub mod laws;
 mod objects;
+mod offsets;
 mod programs;
 mod reading;
 mod second;

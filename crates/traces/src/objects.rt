@@ -2,11 +2,12 @@
 ghost use Rattle.std.specs.Prelude.{◌≡◌, ◌-◌, ◌^◌, nat_lt, [], Some};
 ghost use Rattle.std.specs.List.{list_all};
 ghost use Rattle.places.specs.declared.object.Object.{Object};
+ghost use Rattle.traces.specs.Cursors.{at_offset};
 ghost use Rattle.traces.specs.Reading.{Gives, number_in, bytes_at, long_at, name_at, contents_of, contents_at, object_at, end_at, descriptor_at, items_at, list_at, end_of};
 ghost use Rattle.traces.specs.Limits.{is_name_byte, is_same, has_name, is_new_name, is_end_of};
 
-use crate::cursor::{Cursor, bytes_at, count_at, u8_at, u8_below, u8_within, u32_within, u64_at};
 use crate::fault::TraceFault;
+use crate::offsets::{bytes_at, count_at, u8_at, u8_below, u8_within, u32_within, u64_at};
 use places::{Contents, Descriptor, End, Items, Object};
 use std::alloc::Global;
 
@@ -14,15 +15,17 @@ use std::alloc::Global;
 #[tactic(auto, unfolding(crate::specs::Reading::long_at))]
 pub(crate) fn read_long(
     alloc: Global,
-    cursor: Cursor<'_>,
+    bytes: &[u8],
+    offset: usize,
     most: u32,
-) -> Result<(Items<u8>, Cursor<'_>), TraceFault>
-    ensures { Gives (λ x. (x.0, x.1)) result (long_at most cursor.entry) }
+) -> Result<(Items<u8>, usize), TraceFault>
+    ensures { Gives (λ x. (x.0, at_offset bytes.now x.1)) result
+        (long_at most (at_offset bytes.now offset)) }
 {
-    let (count, after) = count_at(cursor, most)?;
-    let (bytes, after) = bytes_at(after, count as usize)?;
-    let bytes = Vec::from_slice(alloc, bytes)?;
-    Ok((Items::from_vec(bytes), after))
+    let (count, after) = count_at(bytes, offset, most)?;
+    let (items, after) = bytes_at(bytes, after, count as usize)?;
+    let items = Vec::from_slice(alloc, items)?;
+    Ok((Items::from_vec(items), after))
 }
 
 fn is_name_byte(byte: u8) -> bool
@@ -58,16 +61,17 @@ fn is_new_name(before: &[Object], name: &[u8]) -> bool
 }
 
 #[tactic(auto, unfolding(crate::specs::Reading::name_at))]
-fn read_name<'a>(
+fn read_name(
     alloc: Global,
     before: &[Object],
-    cursor: Cursor<'a>,
-) -> Result<(Items<u8>, Cursor<'a>), TraceFault>
-    ensures { Gives (λ x. (x.0, x.1)) result (name_at before.now cursor.entry) }
+    bytes: &[u8],
+    offset: usize,
+) -> Result<(Items<u8>, usize), TraceFault>
+    ensures { Gives (λ x. (x.0, at_offset bytes.now x.1)) result
+        (name_at before.now (at_offset bytes.now offset)) }
 {
-    let (count, after) = u8_within(cursor, 1, 16)?;
-    let at = after.offset();
-    let (name, after) = bytes_at(after, usize::from(count))?;
+    let (count, at) = u8_within(bytes, offset, 1, 16)?;
+    let (name, after) = bytes_at(bytes, at, usize::from(count))?;
     if !is_new_name(before, name) {
         return Err(TraceFault::Setup(at));
     }
@@ -76,14 +80,13 @@ fn read_name<'a>(
 }
 
 #[tactic(auto, unfolding(crate::specs::Reading::number_in))]
-fn read_counter(cursor: Cursor<'_>) -> Result<(u64, Cursor<'_>), TraceFault>
-    ensures { Gives (λ x. (x.0, x.1)) result
-        (number_in 8 (λ n. nat_lt n (2 ^ 64 - 1)) cursor.entry) }
+fn read_counter(bytes: &[u8], offset: usize) -> Result<(u64, usize), TraceFault>
+    ensures { Gives (λ x. (x.0, at_offset bytes.now x.1)) result
+        (number_in 8 (λ n. nat_lt n (2 ^ 64 - 1)) (at_offset bytes.now offset)) }
 {
-    let at = cursor.offset();
-    let (counter, after) = u64_at(cursor)?;
+    let (counter, after) = u64_at(bytes, offset)?;
     if counter == u64::MAX {
-        return Err(TraceFault::Setup(at));
+        return Err(TraceFault::Setup(offset));
     }
     Ok((counter, after))
 }
@@ -92,74 +95,87 @@ fn read_counter(cursor: Cursor<'_>) -> Result<(u64, Cursor<'_>), TraceFault>
 fn read_contents_of(
     alloc: Global,
     kind: u8,
-    cursor: Cursor<'_>,
-) -> Result<(Contents, Cursor<'_>), TraceFault>
-    ensures { Gives (λ x. (x.0, x.1)) result (contents_of kind cursor.entry) }
+    bytes: &[u8],
+    offset: usize,
+) -> Result<(Contents, usize), TraceFault>
+    ensures { Gives (λ x. (x.0, at_offset bytes.now x.1)) result
+        (contents_of kind (at_offset bytes.now offset)) }
 {
     match kind {
         1 => {
-            let (bytes, after) = read_long(alloc, cursor, 65536)?;
-            Ok((Contents::File(bytes), after))
+            let (items, after) = read_long(alloc, bytes, offset, 65536)?;
+            Ok((Contents::File(items), after))
         }
         2 => {
-            let (capacity, after) = u32_within(cursor, 1, 65536)?;
+            let (capacity, after) = u32_within(bytes, offset, 1, 65536)?;
             Ok((Contents::Pipe(capacity), after))
         }
         _ => {
-            let (counter, after) = read_counter(cursor)?;
+            let (counter, after) = read_counter(bytes, offset)?;
             Ok((Contents::EventFd(counter), after))
         }
     }
 }
 
 #[tactic(auto, unfolding(crate::specs::Reading::contents_at))]
-fn read_contents(alloc: Global, cursor: Cursor<'_>) -> Result<(Contents, Cursor<'_>), TraceFault>
-    ensures { Gives (λ x. (x.0, x.1)) result (contents_at cursor.entry) }
+fn read_contents(
+    alloc: Global,
+    bytes: &[u8],
+    offset: usize,
+) -> Result<(Contents, usize), TraceFault>
+    ensures { Gives (λ x. (x.0, at_offset bytes.now x.1)) result
+        (contents_at (at_offset bytes.now offset)) }
 {
-    let (kind, after) = u8_within(cursor, 1, 3)?;
-    read_contents_of(alloc, kind, after)
+    let (kind, after) = u8_within(bytes, offset, 1, 3)?;
+    read_contents_of(alloc, kind, bytes, after)
 }
 
 #[tactic(auto, unfolding(crate::specs::Reading::object_at))]
-fn read_object<'a>(
+fn read_object(
     alloc: Global,
     before: &[Object],
-    cursor: Cursor<'a>,
-) -> Result<(Object, Cursor<'a>), TraceFault>
-    ensures { Gives (λ x. (x.0, x.1)) result (object_at before.now cursor.entry) }
+    bytes: &[u8],
+    offset: usize,
+) -> Result<(Object, usize), TraceFault>
+    ensures { Gives (λ x. (x.0, at_offset bytes.now x.1)) result
+        (object_at before.now (at_offset bytes.now offset)) }
 {
-    let (name, after) = read_name(alloc, before, cursor)?;
-    let (contents, after) = read_contents(alloc, after)?;
+    let (name, after) = read_name(alloc, before, bytes, offset)?;
+    let (contents, after) = read_contents(alloc, bytes, after)?;
     Ok((Object { name, contents }, after))
 }
 
 fn read_objects_counted(
     alloc: Global,
     count: u32,
-    cursor: Cursor<'_>,
-) -> Result<(Vec<Object>, Cursor<'_>), TraceFault>
-    ensures { Gives (λ x. (x.0.items, x.1)) result (items_at object_at count [] cursor.entry) }
+    bytes: &[u8],
+    offset: usize,
+) -> Result<(Vec<Object>, usize), TraceFault>
+    ensures { Gives (λ x. (x.0.items, at_offset bytes.now x.1)) result
+        (items_at object_at count [] (at_offset bytes.now offset)) }
 {
     let mut objects = Vec::new(alloc);
-    let mut rest = cursor;
+    let mut at = offset;
     for _ in 0..count {
-        let (object, after) = read_object(alloc, &objects, rest)?;
+        let (object, after) = read_object(alloc, &objects, bytes, at)?;
         objects.push(object)?;
-        rest = after;
+        at = after;
     }
-    Ok((objects, rest))
+    Ok((objects, at))
 }
 
 /// Reads the objects, whose names are unique.
 #[tactic(auto, unfolding(crate::specs::Reading::list_at))]
 pub(crate) fn read_objects(
     alloc: Global,
-    cursor: Cursor<'_>,
-) -> Result<(Items<Object>, Cursor<'_>), TraceFault>
-    ensures { Gives (λ x. (x.0, x.1)) result (list_at 32 object_at cursor.entry) }
+    bytes: &[u8],
+    offset: usize,
+) -> Result<(Items<Object>, usize), TraceFault>
+    ensures { Gives (λ x. (x.0, at_offset bytes.now x.1)) result
+        (list_at 32 object_at (at_offset bytes.now offset)) }
 {
-    let (count, after) = count_at(cursor, 32)?;
-    let (objects, after) = read_objects_counted(alloc, count, after)?;
+    let (count, after) = count_at(bytes, offset, 32)?;
+    let (objects, after) = read_objects_counted(alloc, count, bytes, after)?;
     Ok((Items::from_vec(objects), after))
 }
 
@@ -183,60 +199,70 @@ fn end_of(number: u8) -> End
 }
 
 #[tactic(auto, unfolding(crate::specs::Reading::number_in, crate::specs::Reading::end_at))]
-fn read_end<'a>(object: &Object, cursor: Cursor<'a>) -> Result<(End, Cursor<'a>), TraceFault>
-    ensures { Gives (λ x. (x.0, x.1)) result (end_at (Some object.now) cursor.entry) }
+fn read_end(object: &Object, bytes: &[u8], offset: usize) -> Result<(End, usize), TraceFault>
+    ensures { Gives (λ x. (x.0, at_offset bytes.now x.1)) result
+        (end_at (Some object.now) (at_offset bytes.now offset)) }
 {
-    let at = cursor.offset();
-    let (number, after) = u8_at(cursor)?;
+    let (number, after) = u8_at(bytes, offset)?;
     if !is_end_of(&object.contents, number) {
-        return Err(TraceFault::Setup(at));
+        return Err(TraceFault::Setup(offset));
     }
     Ok((end_of(number), after))
 }
 
 #[tactic(auto, unfolding(crate::specs::Reading::descriptor_at))]
-fn read_descriptor<'a>(
+fn read_descriptor(
     objects: &[Object],
-    cursor: Cursor<'a>,
-) -> Result<(Descriptor, Cursor<'a>), TraceFault>
-    ensures { Gives (λ x. (x.0, x.1)) result (descriptor_at objects.now cursor.entry) }
+    bytes: &[u8],
+    offset: usize,
+) -> Result<(Descriptor, usize), TraceFault>
+    ensures { Gives (λ x. (x.0, at_offset bytes.now x.1)) result
+        (descriptor_at objects.now (at_offset bytes.now offset)) }
 {
-    let (object, after) = u8_below(cursor, objects.len())?;
-    let (end, after) = read_end(&objects[usize::from(object)], after)?;
+    let (object, after) = u8_below(bytes, offset, objects.len())?;
+    let (end, after) = read_end(&objects[usize::from(object)], bytes, after)?;
     let object = u32::from(object);
     Ok((Descriptor { object, end }, after))
 }
 
-fn read_descriptors_counted<'a>(
+fn read_descriptors_counted(
     alloc: Global,
     count: u32,
     objects: &[Object],
-    cursor: Cursor<'a>,
-) -> Result<(Vec<Descriptor>, Cursor<'a>), TraceFault>
-    ensures { Gives (λ x. (x.0.items, x.1)) result
-        (items_at (λ before. descriptor_at objects.now) count [] cursor.entry) }
+    bytes: &[u8],
+    offset: usize,
+) -> Result<(Vec<Descriptor>, usize), TraceFault>
+    ensures { Gives (λ x. (x.0.items, at_offset bytes.now x.1)) result
+        (items_at (λ before. descriptor_at objects.now) count [] (at_offset bytes.now offset)) }
 {
     let mut descriptors = Vec::new(alloc);
-    let mut rest = cursor;
+    let mut at = offset;
     for _ in 0..count {
-        let (descriptor, after) = read_descriptor(objects, rest)?;
+        let (descriptor, after) = read_descriptor(objects, bytes, at)?;
         descriptors.push(descriptor)?;
-        rest = after;
+        at = after;
     }
-    Ok((descriptors, rest))
+    Ok((descriptors, at))
 }
 
 /// Reads the descriptors, which refer to these objects.
 #[tactic(auto, unfolding(crate::specs::Reading::list_at))]
-pub(crate) fn read_descriptors<'a>(
+pub(crate) fn read_descriptors(
     alloc: Global,
     objects: &Items<Object>,
-    cursor: Cursor<'a>,
-) -> Result<(Items<Descriptor>, Cursor<'a>), TraceFault>
-    ensures { Gives (λ x. (x.0, x.1)) result
-        (list_at 64 (λ before. descriptor_at objects.now) cursor.entry) }
+    bytes: &[u8],
+    offset: usize,
+) -> Result<(Items<Descriptor>, usize), TraceFault>
+    ensures { Gives (λ x. (x.0, at_offset bytes.now x.1)) result
+        (list_at 64 (λ before. descriptor_at objects.now) (at_offset bytes.now offset)) }
 {
-    let (count, after) = count_at(cursor, 64)?;
-    let (descriptors, after) = read_descriptors_counted(alloc, count, objects.as_slice(), after)?;
+    let (count, after) = count_at(bytes, offset, 64)?;
+    let (descriptors, after) = read_descriptors_counted(
+        alloc,
+        count,
+        objects.as_slice(),
+        bytes,
+        after,
+    )?;
     Ok((Items::from_vec(descriptors), after))
 }

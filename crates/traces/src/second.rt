@@ -8,10 +8,10 @@ ghost use Rattle.traces.specs.Spelling.{counted_bytes, magic, most_events, has_t
 ghost use Rattle.traces.specs.Faults.{BeginsAs, IsFault};
 ghost use Rattle.scenario.specs.Setups.{setup_refusal};
 ghost use Rattle.traces.specs.Setups.{canonical, magic2, IsTrace2};
-ghost use Rattle.traces.specs.Reading.{setup_at, IsBodyFault, IsFault2};
+ghost use Rattle.traces.specs.Reading.{after_magic, setup_at, IsBodyFault, IsFault2};
 
-use crate::cursor::Cursor;
 use crate::fault::TraceFault;
+use crate::offsets::rest_of;
 use crate::reading::{read_counted, read_trace};
 use crate::setup_writing::push_setup;
 use crate::setups::read_setup;
@@ -22,15 +22,16 @@ use std::alloc::{AllocError, Global};
 // The first eight bytes of the second form.
 const MAGIC: [u8; 8] = *b"URTRACE2";
 
-// Reads a setup, and the events after it.
-fn read_body(alloc: Global, cursor: Cursor<'_>) -> Result<(Setup, Vec<Event>), TraceFault>
-    ensures found { IfOk result (λ found. (s : Cursor) × (setup_at cursor.entry ≡ Ok (found.0, s))
+// Reads the setup after the magic, and the events after it.
+fn read_body(alloc: Global, bytes: &[u8]) -> Result<(Setup, Vec<Event>), TraceFault>
+    ensures found { IfOk result (λ found. (s : Cursor)
+        × (setup_at (after_magic bytes.now) ≡ Ok (found.0, s))
         × (s.rest ≡ counted_bytes found.1.items) × AreEvents found.1.items) }
     ensures fault { IfErr result (λ fault. (fault ≡ TraceFault.Memory)
-        ⊎ IsBodyFault (setup_at cursor.entry) fault) }
+        ⊎ IsBodyFault (setup_at (after_magic bytes.now)) fault) }
 {
-    let (setup, after) = read_setup(alloc, cursor)?;
-    let events = read_counted(alloc, after.rest())?;
+    let (setup, after) = read_setup(alloc, bytes, MAGIC.len())?;
+    let events = read_counted(alloc, rest_of(bytes, after))?;
     Ok((setup, events))
 }
 
@@ -49,7 +50,7 @@ fn read_second(alloc: Global, bytes: &[u8]) -> Result<(Setup, Vec<Event>), Trace
     if bytes.len() < 8 {
         return Err(TraceFault::Truncated);
     }
-    read_body(alloc, Cursor::new(bytes, 8))
+    read_body(alloc, bytes)
 }
 
 /// Reads the setup and the events of a trace of the second form.

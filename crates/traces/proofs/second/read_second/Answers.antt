@@ -13,11 +13,9 @@ pub returns-clause-found : goal.returns-clause-found
 returns-clause-found c =
     let bytes = c.args.bytes.now in
     let begins : BeginsAs magic2 bytes = search rules in
-    let found = rw c.new.ensures at c.read_body.ensures.found in
-    is_found bytes c.read_body.result (λ i. omega (arith, c.type_inv.bytes i)) (omega arith) begins found
+    is_found bytes c.read_body.result (λ i. omega (arith, c.type_inv.bytes i)) (omega arith) begins c.read_body.ensures.found
 
 pub returns-clause-fault : goal.returns-clause-fault
 returns-clause-fault c =
     let begins : BeginsAs magic2 c.args.bytes.now = search rules in
-    let fault = rw c.new.ensures at c.read_body.ensures.fault in
-    is_fault c.args.bytes.now c.read_body.result begins fault
+    is_fault c.args.bytes.now c.read_body.result begins c.read_body.ensures.fault
