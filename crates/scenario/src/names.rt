@@ -129,5 +129,6 @@ fn has_single(setup: &Setup, place: Place) -> bool
 fn single(setup: &Setup, name: &[u8]) -> Option<Place>
     ensures { result ≡ single_named setup.now name.now }
 {
-    single_of_name(name).filter(|place| has_single(setup, *place))
+    let place = single_of_name(name)?;
+    has_single(setup, place).then_some(place)
 }

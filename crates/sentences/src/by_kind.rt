@@ -31,16 +31,15 @@ fn expired(alloc: Global, about: &About) -> Text {
 
 // Returns since when the target of an expired LINK_TIMEOUT could have completed.
 fn since(run: &Run<'_>, target: u32) -> Text {
-    let times = run.times_of(target);
-    match (
-        times.and_then(|times| times.ready),
-        times.and_then(|times| times.issued),
-    ) {
-        (Some(event), Some(issued)) if issued == event => {
+    let Some(times) = run.times_of(target) else {
+        return String::from_str(run.alloc(), "was there");
+    };
+    match times.ready {
+        Some(event) if times.issued == Some(event) => {
             format!(in run.alloc(); "was there already when it was issued, at event {event}")
         }
-        (Some(event), _) => format!(in run.alloc(); "had been there since event {event}"),
-        (None, _) => String::from_str(run.alloc(), "was there"),
+        Some(event) => format!(in run.alloc(); "had been there since event {event}"),
+        None => String::from_str(run.alloc(), "was there"),
     }
 }
 

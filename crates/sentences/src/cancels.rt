@@ -92,8 +92,7 @@ fn reason_of(run: &Run<'_>, about: &About, number: u32, row: &Row) -> Text {
         let finds = what_it_finds(&about.row.entry);
         return format!(in run.alloc(); "row {name} does not match, as {finds}");
     }
-    let ended = run.times_of(number).and_then(|times| times.ended);
-    match ended {
+    match run.ended(number) {
         Some(moment) if moment < about.moment => {
             format!(in run.alloc(); "row {name} had completed at event {moment}")
         }
@@ -117,14 +116,24 @@ fn reason_by_user_data(run: &Run<'_>, about: &About) -> Text {
     }
 }
 
+// Returns the first queued row that uses the descriptor that a cancel names.
+fn queued_user(run: &Run<'_>, about: &About) -> Option<u32> {
+    for number in 0..run.row_count() {
+        if let Some(row) = run.row(number) {
+            if number != about.number
+                && names_descriptor(&about.row.entry, &row)
+                && is_queued(run, number, about.moment)
+            {
+                return Some(number);
+            }
+        }
+    }
+    None
+}
+
 fn reason_by_descriptor(run: &Run<'_>, about: &About) -> Text {
     let fd = about.row.entry.fd;
-    let user = run.find(0, |number, row| {
-        number != about.number
-            && names_descriptor(&about.row.entry, row)
-            && is_queued(run, number, about.moment)
-    });
-    match user.and_then(|number| run.name(number)) {
+    match run.name_if_any(queued_user(run, about)) {
         Some(name) => format!(in run.alloc();
             "no issued request held descriptor {fd}; row {name} names it, but was still queued, and ASYNC_CANCEL finds only issued requests"
         ),
@@ -157,7 +166,14 @@ pub(crate) fn not_found(run: &Run<'_>, about: &About) -> Text {
 /// Returns the first row from a number on that a cancel matched when it completed, by its user_data
 /// or its descriptor.
 pub(super) fn next_found(run: &Run<'_>, about: &About, from: u32) -> Option<u32> {
-    run.find(from, |number, row| is_found(run, about, number, row))
+    for number in from..run.row_count() {
+        if let Some(row) = run.row(number) {
+            if is_found(run, about, number, &row) {
+                return Some(number);
+            }
+        }
+    }
+    None
 }
 
 fn is_found(run: &Run<'_>, about: &About, number: u32, row: &Row) -> bool {
@@ -172,8 +188,7 @@ fn is_found(run: &Run<'_>, about: &About, number: u32, row: &Row) -> bool {
 
 // Returns what became of a row that was running.
 fn became(run: &Run<'_>, number: u32) -> Text {
-    let ended = run.times_of(number).and_then(|times| times.ended);
-    match (ended, run.result(number)) {
+    match (run.ended(number), run.result(number)) {
         (Some(moment), Some(res)) => {
             let result_name = ResultName(res);
             format!(in run.alloc(); "it completed at event {moment} with {result_name}")
@@ -200,7 +215,7 @@ pub(crate) fn too_late(run: &Run<'_>, about: &About) -> Text {
     let name = about.name();
     let rule = rule_of(&about.row.entry);
     let found = next_found(run, about, 0);
-    let (Some(number), Some(of)) = (found, found.and_then(|number| run.name(number))) else {
+    let (Some(number), Some(of)) = (found, run.name_if_any(found)) else {
         return format!(in run.alloc(); "Row {name} completed with -114 (EALREADY) {rule}.");
     };
     let became = became(run, number)?;

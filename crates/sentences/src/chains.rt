@@ -73,7 +73,10 @@ fn cause_of(run: &Run<'_>, about: &About) -> (Option<u32>, &'static str, &'stati
             )
         }
         (_, Some(Event::Finish(by, _))) if by != about.number => {
-            let rule = run.row(by).map_or(ERROR_RULE, |row| rule_of(&row.entry));
+            let rule = match run.row(by) {
+                Some(row) => rule_of(&row.entry),
+                None => ERROR_RULE,
+            };
             (Some(by), " canceled it", rule)
         }
         _ => (None, "it was canceled", ERROR_RULE),
@@ -84,7 +87,7 @@ fn cause_of(run: &Run<'_>, about: &About) -> (Option<u32>, &'static str, &'stati
 pub(crate) fn canceled(run: &Run<'_>, about: &About) -> Text {
     let name = about.name();
     let (by, what_it_did, rule) = cause_of(run, about);
-    match by.and_then(|by| run.name(by)) {
+    match run.name_if_any(by) {
         Some(by) => format!(in run.alloc();
             "Row {name} completed with -125 (ECANCELED): row {by}{what_it_did} {rule}."
         ),

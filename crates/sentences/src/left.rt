@@ -71,8 +71,7 @@ fn waits_for(run: &Run<'_>, number: u32, row: &Row) -> Text {
         Some(by) => (Some(by), LINK_RULE),
         None => (first_before_drain(run, row), DRAIN_RULE),
     };
-    let name = by.and_then(|by| run.name(by));
-    match name {
+    match run.name_if_any(by) {
         Some(name) => {
             format!(in run.alloc();
                 "It is queued, and waits for row {name}, which has not completed {rule}."
@@ -173,7 +172,10 @@ pub(crate) fn unfinished(run: &Run<'_>, verdict: Verdict, number: u32) -> Text {
     let name = RowName::new(number, &row);
     let refusal = run.state.refuses(next_event(number, &row));
     let reason = reason(run, number, &row, refusal)?;
-    let end = refusal.map_or("", |_| cut_off(verdict));
+    let end = match refusal {
+        Some(_) => cut_off(verdict),
+        None => "",
+    };
     format!(in run.alloc(); "Row {name} has not completed. {reason}{end}")
 }
 

@@ -42,7 +42,7 @@ pub(crate) fn several(run: &Run<'_>, about: &About) -> Text {
     let result_name = ResultName(about.result(run));
     let rows = found(run, about)?;
     let count = rows.len();
-    let Some(least) = rows.first().and_then(|number| run.name(*number)) else {
+    let Some(least) = run.name_if_any(rows.first().copied()) else {
         return Ok(String::new(run.alloc()));
     };
     let advice = advice(about.row.entry.opcode);
@@ -95,8 +95,7 @@ fn alike(run: &Run<'_>, about: &About) -> Option<u32> {
 /// hadn't completed.
 pub(crate) fn same_user_data(run: &Run<'_>, about: &About) -> Text {
     let name = about.name();
-    let other = alike(run, about).and_then(|number| run.name(number));
-    match other {
+    match run.name_if_any(alike(run, about)) {
         Some(other) => format!(in run.alloc();
             "Row {name} was submitted before row {other} completed, which has the same user_data: user_data alone does not distinguish their completions {USER_RULE}."
         ),

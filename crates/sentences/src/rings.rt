@@ -148,11 +148,14 @@ fn is_completed_timeout(row: &Row) -> bool {
 
 // Returns whether a TIMEOUT expired, or reached its count, by the event at a moment or a later one.
 fn has_completed_timeout(run: &Run<'_>, since: u32) -> bool {
-    run.find(
-        0,
-        |number, row| is_completed_timeout(row) && run.ends_since(number, since),
-    )
-    .is_some()
+    for number in 0..run.row_count() {
+        if let Some(row) = run.row(number) {
+            if is_completed_timeout(&row) && run.ends_since(number, since) {
+                return true;
+            }
+        }
+    }
+    false
 }
 
 /// How many reaps the sentence of a waiting thread names.

@@ -61,23 +61,14 @@ impl Run<'_> {
         self.history.rows.len().min(MOST_ROWS as usize) as u32
     }
 
-    /// Returns the first row from a number on that passes a test.
-    pub(crate) fn find<F: Fn(u32, &Row) -> bool>(&self, from: u32, test: F) -> Option<u32>
-        requires { F.IsAlwaysCallable test }
-    {
-        for number in from..self.row_count() {
-            if let Some(row) = self.row(number) {
-                if test(number, &row) {
-                    return Some(number);
-                }
-            }
-        }
-        None
-    }
-
     pub(crate) fn name(&self, number: u32) -> Option<RowName> {
         let row = self.row(number)?;
         Some(RowName::new(number, &row))
+    }
+
+    /// Returns the name of a row, if there is a number.
+    pub(crate) fn name_if_any(&self, number: Option<u32>) -> Option<RowName> {
+        self.name(number?)
     }
 
     /// Returns the result of a row that has completed.
@@ -90,6 +81,11 @@ impl Run<'_> {
 
     pub(crate) fn times_of(&self, number: u32) -> Option<Times> {
         self.history.rows.get(number as usize).copied()
+    }
+
+    /// Returns the moment before the event that completed a row, if it has completed.
+    pub(crate) fn ended(&self, number: u32) -> Option<u32> {
+        self.times_of(number)?.ended
     }
 
     pub(crate) fn event(&self, moment: u32) -> Option<Event> {
@@ -147,14 +143,20 @@ impl Run<'_> {
     pub(crate) fn retried_at(&self, moment: u32) -> Option<&Retry> {
         let list = &self.history.retries;
         let index = list.partition_point(|retry| retry.moment < moment);
-        list.get(index).filter(|retry| retry.moment == moment)
+        match list.get(index) {
+            Some(retry) if retry.moment == moment => Some(retry),
+            _ => None,
+        }
     }
 
     /// Returns the first slot whose entry names a descriptor that the event at a moment closed.
     pub(crate) fn slot(&self, moment: u32) -> Option<u32> {
         let slots = &self.history.slots;
         let index = slots.partition_point(|met| met.moment < moment);
-        Some(slots.get(index).filter(|met| met.moment == moment)?.slot)
+        match slots.get(index) {
+            Some(met) if met.moment == moment => Some(met.slot),
+            _ => None,
+        }
     }
 
     /// Returns the first moment after one at which the backlog was empty again.
@@ -168,8 +170,10 @@ impl Run<'_> {
     pub(crate) fn dropped_at(&self, moment: u32) -> u32 {
         let dropped = &self.history.dropped;
         let index = dropped.partition_point(|(at, _)| *at < moment);
-        let last = index.checked_sub(1).and_then(|last| dropped.get(last));
-        let before = last.map_or(0, |(_, count)| *count);
+        let before = match dropped[..index].last() {
+            Some((_, count)) => *count,
+            None => 0,
+        };
         match dropped.get(index) {
             Some((at, count)) if *at == moment => count.saturating_sub(before),
             _ => 0,
@@ -178,7 +182,7 @@ impl Run<'_> {
 
     /// Returns whether a row completed by the event at a moment.
     pub(crate) fn ends_at(&self, number: u32, moment: u32) -> bool {
-        matches!(self.times_of(number), Some(times) if times.ended == Some(moment))
+        self.ended(number) == Some(moment)
     }
 
     /// Returns whether a row completed by the event at a moment, or by a later one.

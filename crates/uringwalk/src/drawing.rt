@@ -54,13 +54,14 @@ fn loses_run(rt: &(impl Files + AllocGlobal), run: &str, out: &str) -> Result<bo
     lead_to_one_file(rt, run, out).map_err(file_fault)
 }
 
-/// Draws the events in a window of the run of a script or a trace, and writes the picture to a
-/// file. Returns the exit status.
+/// Draws the events from `from` up to `to` of the run of a script or a trace, and writes the
+/// picture to a file. Returns the exit status.
 pub fn draw_file(
     rt: &(impl Files + Input + Eprint + AllocGlobal),
     run: &str,
     out: &str,
-    window: Window,
+    from: Option<u32>,
+    to: Option<u32>,
 ) -> Result<ExitCode, Fault> {
     let Some(picture) = picture_of(out) else {
         return Ok(fail(rt, WORDS, &NO_PICTURE));
@@ -69,7 +70,7 @@ pub fn draw_file(
         return Ok(fail(rt, WORDS, &ONTO_RUN));
     }
     let bytes = read_input(rt, run, WHOLE_TRACE_AND_ONE)?;
-    match draw_run(rt.alloc(), run, &bytes, window, picture) {
+    match draw_run(rt.alloc(), run, &bytes, Window { from, to }, picture) {
         Ok(drawing) => keep_drawing(rt, out, drawing),
         Err(fault) => Ok(Failure::from_report(rt.alloc(), &bytes, fault).print(rt)),
     }

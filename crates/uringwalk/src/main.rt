@@ -43,7 +43,6 @@ use std::sync::Wait;
 use std::thread::Threads;
 use std::time::Clock;
 use std::{env, fmt, io};
-use timeline::Window;
 use whole_files::{FileFault, lead_to_one_file, read_file, write_file};
 
 /// One byte more than a script may have. The bytes after it are not read.
@@ -174,7 +173,7 @@ fn run<
             allowed,
             form,
         } => explain_files(rt, &runs, &kinds, &allowed, form),
-        Job::Timeline { run, out, from, to } => draw_file(rt, run, out, Window { from, to }),
+        Job::Timeline { run, out, from, to } => draw_file(rt, run, out, from, to),
         Job::Explore(search) => explore_file(rt, &search, is_terminal),
         Job::Schedule { script, trace, out } => schedule_file(rt, script, trace, out),
         Job::Live {
