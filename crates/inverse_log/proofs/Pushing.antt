@@ -1,7 +1,7 @@
 -- Lemmas about pushing events one after the other at the end of a trail.
 use Rattle.std.proofs.Common.{◌≡◌, ℕ, zero, suc, ◌+◌, ◌<◌, ◌≤◌, List, [], ◌∷◌, ◌++◌, ◌⊎◌, inl, inr, length, take, get_or, refl, sym, ap, ◌∙◌, subst, arith, append_assoc, length-append}
 use Rattle.std.specs.Prelude.{Some, None, slice_get}
-use Rattle.std.proofs.lemmas.List.{length-take, take_more}
+use Rattle.std.proofs.lemmas.List.{length-take, take_all, take_more}
 use Rattle.std.proofs.lemmas.Option.{slice_get-get_or}
 use Rattle.machine.specs.declared.whole.Machine.{Machine}
 use Rattle.scenario.specs.declared.event.Event.{Event}
@@ -24,6 +24,23 @@ pushed_last w v es i last h p =
     let long = length-append w.events (take i es) in
     let short = length-take i es in
     omega arith
+
+-- There is room for one more event.
+pub pushed_room : (w v : Track) (es : List Event) (i most : ℕ) → w.at ≡ length w.events → i < length es → length w.events + length es ≤ most → Pushed w es i v → length v.events < most
+pushed_room w v es i most last h room p =
+    let end = pushed_last w v es i last (omega (arith, h)) p in
+    let at : v.at ≡ w.at + i = ap (λ (x : Track). x.at) p.walk in
+    omega (arith, last, h, room, end, at)
+
+-- After one more event the position is still the end.
+pub grown_last : (v v' : Track) (e : Event) → v.at ≡ length v.events → v' ≡ grown v (e ∷ []) (v.at + 1) → v'.at ≡ length v'.events
+grown_last v v' e last g = ap (λ (x : Track). x.at) g ∙ ap (λ n. n + 1) last ∙ sym (length-append v.events (e ∷ [])) ∙ ap (λ (x : Track). length x.events) (sym g)
+
+-- All events were pushed.
+pub pushed_all : (w v : Track) (es : List Event) (i : ℕ) → i ≡ length es → Pushed w es i v → (v ≡ grown w es (w.at + length es)) × Accepts (ends w) es
+pushed_all w v es i all p =
+    let whole = take_all i es (omega (arith, all)) in
+    (p.walk ∙ ap (λ fs. grown w fs (w.at + i)) whole ∙ ap (λ n. grown w es (w.at + n)) all, subst (Accepts (ends w)) whole p.accepts)
 
 pub pushed_current : (w v : Track) (es : List Event) (i : ℕ) → w.at ≡ length w.events → i ≤ length es → Pushed w es i v → current v ≡ run (ends w) (take i es)
 pushed_current w v es i last h p =

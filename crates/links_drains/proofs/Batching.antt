@@ -1,5 +1,6 @@
 -- Lemmas about the first entries of a batch, as requests are added one by one.
 use Rattle.links_drains.proofs.Common.{◌≡◌, ◌≢◌, ℕ, ℤ, zero, suc, Bool, true, false, not, cond, refl, sym, ◌∙◌, ap, List, [], ◌∷◌, ◌++◌, take, length, ◌<◌, ◌≤◌, ◌+◌, ◌⊎◌, inl, inr, append_assoc, length-append, map, subst, arith, Option, Some, None, option_map, is_none, is_some, slice_get, option_map_or, prefix_len, enumerate_from, common_steps, length-take-le, take_all, gets, slice_get-map, slice_get_past, slice_get_within, get_or, get_or_from_slice_get, slice_get-take_below, slice_get-take_above, same_list, cases_lt, cases_eq, eq-eqb, ne_eqb, ◌==◌, option_and_then, ◌&&◌, ◌-◌, Sqe, Row, Keeps, named, keeps_then, WorldState, previous_in, chain_of, error_at, error_of, errors_of, row_of, rows_of, target_of, taken_of, halts, shown_on, error_in, is_linked, ChainContinues, table_owns, table_seen, new_row, Notes, Place, length-enumerate_from, prefix_len_is, result_err}
+use Rattle.std.proofs.lemmas.List.{take_at}
 use Rattle.opcodes.specs.Check.{check_of, time_of}
 use Rattle.links_drains.proofs.{Chains.enumerated, Chains.get-batch, RowsKept.length-push, RowsKept.get-pushed, Units.any_false, Units.any_true}
 
@@ -140,6 +141,13 @@ all_added w before now es taken n h is = h ∙ ap (λ rs. before ++ rs) (rows_ta
 pub next_continues : (now : List Row) (unit : ℕ) (row : Row) → (unit ≡ length now) ⊎ LastOf now unit → row.unit ≡ unit → ChainContinues now row
 next_continues now unit row (inl m) e = inl (e ∙ m)
 next_continues now unit row (inr m) e = inr (m.0, m.1, m.2, m.3, e ∙ m.4)
+
+-- The rows before the batch stay, also with one more row at the end.
+pub before_stays : (before now more : List Row) → now ≡ before ++ more → take (length before) now ≡ before
+before_stays before now more h = ap (take (length before)) h ∙ take_at before more (length before) refl
+
+pub before_stays_on : (before now later more : List Row) (row : Row) → now ≡ before ++ more → later ≡ now ++ row ∷ [] → take (length before) later ≡ before
+before_stays_on before now later more row h on = before_stays before later (more ++ row ∷ []) (on ∙ ap (λ rs. rs ++ row ∷ []) h ∙ append_assoc before more (row ∷ []))
 
 -- One more row was added.
 pub rows_on : (w : WorldState) (before now later : List Row) (old new : Notes) (es : List Sqe) (i unit : ℕ) (e : Sqe) (row : Row) → Adding w before now old new es i unit → slice_get es i ≡ Some e

@@ -30,6 +30,10 @@ no_guard rows listed r row linked h none = by (is_unfinished row.phase) (guards_
 
 -- ---- The row after a listed one
 
+-- A listed request is in the table.
+pub listed_within : (rows : List Row) (listed : List Ending) (i : ℕ) (e : Ending) → Direct rows listed → slice_get listed i ≡ Some e → e.0 < length rows
+listed_within rows listed i e d h = let row = d.each i e h in slice_get_within rows e.0 row.0 row.1
+
 its_guard : (rows : List Row) (listed : List Ending) (i : ℕ) (e : Ending) (row : Row) → GuardsAreLinked rows → slice_get listed i ≡ Some e → slice_get rows (e.0 + 1) ≡ Some row → result_of (guard_result listed) (e.0 + 1) row ≡ cond (guards_row e.0 row) (Some ecanceled) None
 its_guard = grind (arith, any_at)
 

@@ -1,7 +1,21 @@
-use Rattle.std.proofs.Common.{◌≡◌, ◌∙◌, pos, Some, None, sym, ap, cond, ◌++◌, ◌+◌, slice_index_or}
+use Rattle.std.proofs.Common.{◌≡◌, ◌∙◌, pos, Some, None, sym, ap, cond, arith, ◌++◌, ◌+◌, slice_index_or}
 use Rattle.timeouts_cancel.proofs.Common.{slice_get, append-nil, slice_get-get_or, Ending, ecanceled, paired}
-use Rattle.timeouts_cancel.proofs.{Targets.guarded_all, Targets.guarded_next, Walking.of_one, guards.guards.Goals.then-is_guarded+in_ok-push, guards.guards.Goals.else-is_guarded}
+use Rattle.timeouts_cancel.proofs.{Targets.guarded_all, Targets.guarded_next, Targets.listed_within, Walking.of_one, guards.guards.Goals.then-is_guarded+in_ok-push, guards.guards.Goals.else-is_guarded}
 use Rattle.timeouts_cancel.proofs.guards.guards.Goals as goal
+
+pub is_guarded-requires : goal.is_guarded-requires
+is_guarded-requires c =
+    let e : Ending = slice_index_or c.args.listed.now c.loop-at.at (0, pos 0) in
+    let there = slice_get-get_or c.args.listed.now c.loop-at.at (0, pos 0) c.loop-at-test.true in
+    let few = c.requires.few in
+    omega (arith, few, listed_within c.args.table.now c.args.listed.now c.loop-at.at e c.requires.listed there)
+
+pub overflow_add-r : goal.overflow_add-r
+overflow_add-r c =
+    let e : Ending = slice_index_or c.args.listed.now c.loop-at.at (0, pos 0) in
+    let there = slice_get-get_or c.args.listed.now c.loop-at.at (0, pos 0) c.loop-at-test.true in
+    let few = c.requires.few in
+    omega (arith, few, listed_within c.args.table.now c.args.listed.now c.loop-at.at e c.requires.listed there)
 
 pub loop-at-preserved : goal.loop-at-preserved
 loop-at-preserved c =

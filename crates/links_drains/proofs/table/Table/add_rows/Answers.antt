@@ -1,11 +1,18 @@
 use Rattle.links_drains.proofs.Common.{◌≡◌, ◌∙◌, ◌+◌, ◌⊎◌, inl, inr, Bool, true, false, sym, ap, length, cond, arith, is_some, slice_get-get_or, below_more}
-use Rattle.links_drains.proofs.{Batching.all_added, Batching.all_taken, Batching.adding_on, Batching.count_taken, Batching.element_there, Batching.errors_taken, Batching.failure_taken, Batching.listed_on, Batching.next_continues, Batching.rows_on, table.Table.add_rows.Goals.then-not-is_linked, table.Table.add_rows.Goals.else-not-is_linked}
+use Rattle.links_drains.proofs.{Batching.all_added, Batching.all_taken, Batching.adding_on, Batching.before_stays, Batching.before_stays_on, Batching.count_added, Batching.count_taken, Batching.element_there, Batching.errors_taken, Batching.failure_taken, Batching.listed_on, Batching.next_continues, Batching.rows_on, table.Table.add_rows.Goals.then-not-is_linked, table.Table.add_rows.Goals.else-not-is_linked}
 use Rattle.links_drains.proofs.table.Table.add_rows.Goals as goal
 
 -- Only with `submit_all` does the loop continue after an entry that fails.
 still : (fails submit_all : Bool) → ((fails ≡ true) × (submit_all ≡ true)) ⊎ (fails ≡ false) → submit_all ≡ false → fails ≡ false
 still fails submit_all (inl h) off = let on = h.1 in absurd cc
 still fails submit_all (inr h) off = h
+
+pub push-requires-clause-room : goal.push-requires-clause-room
+push-requires-clause-room c =
+    let below = c.loop-i-test.true in
+    let count = count_added c.args.world.now c.args.self.now c.loop-i.self c.args.notes.now c.loop-i.notes c.args.entries.now c.loop-i.i c.loop-i.unit c.loop-i.invariant.adding (omega (arith, below)) in
+    let few = c.requires in
+    omega (arith, below, count, few)
 
 pub push-requires-clause-continues : goal.push-requires-clause-continues
 push-requires-clause-continues c =
@@ -67,3 +74,15 @@ pub returns-clause-errors : goal.returns-clause-errors
 returns-clause-errors c =
     errors_taken c.args.world.now c.args.entries.now _ c.loop-i.i c.loop-i.errors.items c.loop-i.invariant.listed
     (all_taken c.args.world.now c.args.entries.now c.args.submit_all c.loop-i.i (omega (arith, c.loop-i-test.false, c.loop-i.auto.i-end)) c.loop-i.invariant.passes).taken
+
+pub returns-in_err-push-clause-before : goal.returns-in_err-push-clause-before
+returns-in_err-push-clause-before c = before_stays c.args.self.now c.push.new.self _ (c.in_err-push.ensures.err ∙ c.loop-i.invariant.adding.rows)
+
+pub returns-in_err-note_error-clause-before : goal.returns-in_err-note_error-clause-before
+returns-in_err-note_error-clause-before c = before_stays_on c.args.self.now c.loop-i.self c.push.new.self _ c.row_at-error.result.0 c.loop-i.invariant.adding.rows c.in_ok-push.ensures.ok
+
+pub returns-then-not-submit_all-clause-before : goal.returns-then-not-submit_all-clause-before
+returns-then-not-submit_all-clause-before c = before_stays_on c.args.self.now c.loop-i.self c.push.new.self _ c.row_at-error.result.0 c.loop-i.invariant.adding.rows c.in_ok-push.ensures.ok
+
+pub returns-clause-before : goal.returns-clause-before
+returns-clause-before c = before_stays c.args.self.now c.loop-i.self _ c.loop-i.invariant.adding.rows

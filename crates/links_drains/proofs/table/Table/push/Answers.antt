@@ -1,5 +1,5 @@
 use Rattle.links_drains.proofs.Common.{◌≡◌, refl, sym, ap, length, arith, None, option_map, slice_get, slice_get_past, Requested, keeps_noted, keeps_unchanged, table_owns, table_seen, Request}
-use Rattle.links_drains.proofs.{Indexing.indexed_push, RowsKept.get-pushed, Seen.seen_push, Tallying.room, Tallying.tallied_push}
+use Rattle.links_drains.proofs.{Indexing.indexed_push, RowsKept.get-pushed, RowsKept.length-push, Seen.seen_push, Tallying.room, Tallying.tallied_push}
 use Rattle.links_drains.proofs.table.Table.push.Goals as goal
 
 pub count-requires : goal.count-requires
@@ -38,3 +38,6 @@ returns-in_err-push-clause-keeps c =
     let absent : option_map Requested (slice_get c.self.inside.rows (length c.self.inside.rows)) ≡ None = ap (option_map Requested) (slice_get_past c.self.inside.rows (length c.self.inside.rows) (omega arith)) in
     let noted = rw c.len-r.ensures at c.in_ok-note_row.ensures.ok in
     rw (← c.self.view_is, c.in_err-push.ensures.err) (keeps_unchanged table_owns (table_seen c.self.inside.rows) c.args.notes.now.made c.note_row.new.self.made (Request (length c.self.inside.rows)) refl (rw absent noted))
+
+pub returns-clause-len : goal.returns-clause-len
+returns-clause-len c = rw (← c.self.view_is, c.in_ok-push.ensures.ok) (length-push c.self.inside.rows c.args.row)
