@@ -1,5 +1,6 @@
 -- A cancellation completes unfinished requests, by ascending number.
 use Rattle.std.proofs.Common.{◌≡◌, ℕ, pos, zero, suc, Bool, true, false, not, cond, refl, sym, ◌∙◌, ap, subst, List, [], ◌∷◌, ◌++◌, length, map, ◌+◌, ◌<◌, ◌≤◌, le_refl, arith}
+use Rattle.std.proofs.lemmas.Bool.{ltb-true}
 use Rattle.machine.proofs.Common.{Option, Some, None, slice_get, ◌==◌, ◌&&◌, nat_lt, if◌then◌else◌, filter, enumerate_from, slice_get_within, Sqe, Row, Phase, WorldState, is_running, Ending, ecanceled, Direct, is_guard, is_ended, is_issued, is_unfinished, enumerated, Verdict, key_of, takes_all, on_found, on_all, verdict_of, canceled, ending_with, fits_key, is_match, matches_of, found_by, found_first, is_waiting_match, waiting_by}
 use Rattle.timeouts_cancel.{specs.declared.matching.Key.Key, specs.declared.matching.Found.TheVariants.Running, specs.declared.matching.Found.TheVariants.Waiting, specs.declared.matching.Found.Found, proofs.Severing.both}
 
@@ -31,7 +32,8 @@ rises_above rows a b (d ∷ es) h (suc i) e k = let n = rises_above rows (d.0 + 
 rises_order : (rows : List Row) (a b : ℕ) (es : List Ending) → Rises rows a b es → (i j : ℕ) (p q : Ending) → slice_get es i ≡ Some p → slice_get es j ≡ Some q → i < j → p.0 < q.0
 rises_order rows a b [] h i j p q k g l = absurd cc
 rises_order rows a b (d ∷ es) h i zero p q k g l = absurd (omega (arith, l))
-rises_order rows a b (d ∷ es) h zero (suc j) p q k g l = grind (arith, rises_above)
+rises_order rows a b (d ∷ es) h zero (suc j) p q k g l =
+    let same : d ≡ p = cc in let n = rises_above rows (d.0 + 1) b es h.4 j q g in subst (λ (z : Ending). z.0 < q.0) same (omega (arith, n))
 rises_order rows a b (d ∷ es) h (suc i) (suc j) p q k g l = rises_order rows (d.0 + 1) b es h.4 i j p q k g (omega (arith, l))
 
 rises_direct : (rows : List Row) (a b : ℕ) (es : List Ending) → Rises rows a b es → Direct rows es
@@ -56,7 +58,8 @@ rises_before rows me from (r ∷ rs) h l =
   where
     by : (b : Bool) → nat_lt r me ≡ b → (r + 1 ≤ me → Rises rows (r + 1) me (canceled (λ q. nat_lt q me) rs)) → Rises rows from me (canceled (λ q. nat_lt q me) rs)
         → Rises rows from me (map (λ (q : ℕ). (q, ecanceled)) (cond b (r ∷ filter (λ q. nat_lt q me) rs) (filter (λ q. nat_lt q me) rs)))
-    by = grind arith
+    by true e below here = (h.0, h.1, h.2, h.3, below (let less = ltb-true r me e in omega (arith, less)))
+    by false e below here = here
 
 rises_after : (rows : List Row) (me start from : ℕ) (rs : List ℕ) → Others rows from rs → start ≤ length rows → ((r : ℕ) → from ≤ r → me < r → start ≤ r) → Rises rows start (length rows) (canceled (λ r. nat_lt me r) rs)
 rises_after rows me start from [] h l high = l
@@ -67,7 +70,8 @@ rises_after rows me start from (r ∷ rs) h l high =
   where
     by : (b : Bool) → nat_lt me r ≡ b → Rises rows (r + 1) (length rows) (canceled (λ q. nat_lt me q) rs) → Rises rows start (length rows) (canceled (λ q. nat_lt me q) rs)
         → Rises rows start (length rows) (map (λ (q : ℕ). (q, ecanceled)) (cond b (r ∷ filter (λ q. nat_lt me q) rs) (filter (λ q. nat_lt me q) rs)))
-    by = grind arith
+    by true e above here = let n = h.3 in (h.0, h.1, h.2, high r n (ltb-true me r e), above)
+    by false e above here = here
 
 direct_around : (rows : List Row) (me : ℕ) (x : Row) (v : Verdict) → slice_get rows me ≡ Some x → is_ended x.phase ≡ false → Others rows 0 v.1 → Direct rows (ending_with me v)
 direct_around rows me x v e u o =
@@ -93,7 +97,8 @@ others_from all test onwards n (row ∷ rows) there =
 
     by : (b : Bool) → test (n, row) ≡ b → Others all (n + 1) (map number (filter test (enumerate_from (n + 1) rows)))
         → Others all n (map number (cond b ((n, row) ∷ filter test (enumerate_from (n + 1) rows)) (filter test (enumerate_from (n + 1) rows))))
-    by = grind (arith, others_less, here)
+    by true e more = (row, here, onwards (n, row) e, le_refl n, more)
+    by false e more = others_less all n (n + 1) (map number (filter test (enumerate_from (n + 1) rows))) (omega arith) more
 
 -- An item that passes a filter's test is in the list.
 passing : {X : Type 0} (test : X → Bool) (xs : List X) (i : ℕ) (x : X) → slice_get (filter test xs) i ≡ Some x → (j : ℕ) × (slice_get xs j ≡ Some x) × (test x ≡ true)

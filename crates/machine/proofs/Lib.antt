@@ -31,3 +31,4 @@ pub mod StartLemmas
 pub mod PipeCounts
 pub mod Refusals
 pub mod PlanLemmas
+pub mod Extents

@@ -11,3 +11,4 @@ pub mod Deadlines
 pub mod Owners
 pub mod Transfers
 pub mod Sharing
+pub mod Extents

@@ -1,5 +1,6 @@
 //! The state of a run, and its steps.
 
+mod extents;
 mod repeating;
 mod rows;
 mod snapshot;

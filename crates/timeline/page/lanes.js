@@ -12,6 +12,9 @@ const ENDINGS = {
 const {from, to, findings} = run;
 const rows = new Map(run.rows.map((row) => [row.row, row]));
 
+// Returns when a finding is: at a moment, or since one, whose event has nothing to do with it.
+const when = (finding) => `${finding.since ? 'since moment' : 'at'} ${finding.moment}`;
+
 function lane_key(word, number) {
   if (word === 'step') return `thread ${number}`;
   if (word === 'take' || word === 'sleep') return 'poller';
@@ -40,15 +43,15 @@ function submitter(row) {
 for (const row of run.rows) Object.assign(row, {ending: ending(row), by: submitter(row)});
 
 // Returns the periods in which a place has a value that passes a test.
-function spans(place, holds) {
+function spans(place, passes) {
   const found = [];
-  let value = new Map(run.values).get(place), since = holds(value) ? from : null;
+  let value = new Map(run.values).get(place), since = passes(value) ? from : null;
   for (const step of steps) {
     const changed = step.changes.find((it) => it[0] === place);
     if (!changed) continue;
     if (since !== null) found.push({since, until: step.index + 1, value});
     value = changed[2];
-    since = holds(value) ? step.index + 1 : null;
+    since = passes(value) ? step.index + 1 : null;
   }
   if (since !== null) found.push({since, until: to, value});
   return found;

@@ -57,6 +57,7 @@ function show() {
   draw();
   show_panel();
   put_hash();
+  if (is_framed && view.moment !== told_moment) parent.postMessage({moment: view.moment}, '*');
 }
 
 // Goes to a moment, and chooses the lane of its event.
@@ -306,8 +307,10 @@ main.addEventListener('scroll', () => {
   draw();
 });
 new ResizeObserver(() => {
+  const had_size = size.width > 0;
   measure();
   draw_overview();
+  if (!had_size) show_around(view.moment);
   keep_within();
   redraw();
 }).observe(main);

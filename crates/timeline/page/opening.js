@@ -58,8 +58,20 @@ function show_around(moment) {
   view.left = Math.max(from, Math.min(begin, view.moment - room_across / view.column / 2));
 }
 
+// Within another page, that one shows the run's name and the findings, and has the focus.
+// The two exchange the moment.
+const is_framed = parent !== window;
+let told_moment = null;
+window.addEventListener('message', (e) => {
+  if (!is_framed || e.source !== parent || !Number.isInteger(e.data.moment)) return;
+  told_moment = e.data.moment;
+  pick(told_moment);
+  told_moment = null;
+});
+for (const id of ['name', 'findings']) by_id(id).style.display = is_framed ? 'none' : '';
+
 const now_state = first_state(run);
 draw_overview();
 show_around(first_moment());
 pick(view.moment);
-main.focus({preventScroll: true});
+if (!is_framed) main.focus({preventScroll: true});

@@ -81,7 +81,7 @@ function thin_marks(place, a, b) {
 }
 
 // Returns the marks of the events in view.
-function marks(place, a, b) {
+function event_marks(place, a, b) {
   if (view.column < 5) return thin_marks(place, a, b);
   const out = [];
   each_event(place, a, b, (step, k, y) => out.push(mark(step, y)));
@@ -104,9 +104,10 @@ function finding_groups(x_of_finding, low, high) {
 
 function finding_mark({x, all}, y) {
   const is_fault = all.some((it) => it.fault), at = round(x);
-  const shown_texts = all.slice(0, 12).map((it) => `${it.kind} at ${it.moment}: ${it.text}`);
+  const shown_texts = all.slice(0, 12).map((it) => `${it.kind} ${when(it)}: ${it.text}`);
   const text = [...shown_texts, ...(all.length > 12 ? [`and ${all.length - 12} more`] : [])].join('\n');
-  const label = `${all.length > 1 ? `${all.length} findings` : all[0].kind} at ${all[0].moment}`;
+  const several = `${all.length} findings at ${all[0].moment}`;
+  const label = all.length > 1 ? several : `${all[0].kind} ${when(all[0])}`;
   const number = all.length > 1 ? element('text', {class: 'count', x: at + 7, y: y + 11}, all.length) : '';
   return element('g', {role: 'img', 'aria-label': plain(label), 'data-moment': all[0].moment},
     titled(text) + element('path', {class: is_fault ? 'fault' : 'note', d: `M${at} ${y}l6 12h-12z`}) + number);
@@ -269,7 +270,7 @@ function lanes_drawn(place, a, b) {
     if (lane.key === view.lane) labels.push(rect('chosen', 1, y, place.width - 2, lane.height));
   }
   if (a >= place.head_count && a <= b) bodies.push(ties(place, a, b));
-  bodies.push(marks(place, a, b));
+  bodies.push(event_marks(place, a, b));
   return plot(bodies.join('')) + labels.join('');
 }
 const plot = (inner) => element('g', {'clip-path': 'url(#plot)'}, inner);

@@ -16,6 +16,7 @@ fn finding_part(report: &Report) -> Result<FindingPart, AllocError> {
         moment: report.finding.moment,
         kind: kind.word(),
         fault: kind.is_fault(),
+        since: report.lasts(),
         text: report.text.clone()?,
     })
 }
@@ -37,7 +38,7 @@ pub(crate) fn finding_parts(
     Ok(parts)
 }
 
-/// Returns the kinds of the findings at a moment.
+/// Returns the kinds of the findings about the event at a moment.
 pub(crate) fn kinds_at(
     alloc: Global,
     findings: &[FindingPart],
@@ -45,7 +46,7 @@ pub(crate) fn kinds_at(
 ) -> Result<Vec<&'static str>, AllocError> {
     let mut kinds = Vec::new(alloc);
     for finding in findings {
-        if finding.moment == moment {
+        if finding.moment == moment && !finding.since {
             kinds.push(finding.kind)?;
         }
     }

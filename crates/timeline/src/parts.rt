@@ -73,6 +73,9 @@ pub struct FindingPart {
     pub kind: &'static str,
     /// Whether it is a fault rather than a note.
     pub fault: bool,
+    /// Whether it is a condition that has held since the moment, whose event has nothing to do with
+    /// it.
+    pub since: bool,
     pub text: String,
 }
 

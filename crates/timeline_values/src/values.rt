@@ -1,10 +1,11 @@
 //! The values of all places at the first moment of a page.
-ghost use Rattle.std.specs.Prelude.{◌≡◌, ◌++◌, ◌∷◌, ◌+◌, ◌≤◌, ℕ, None, List, [], length, map, replicate, string_bytes, IfOk, OnOk, IfSome};
+ghost use Rattle.std.specs.Prelude.{◌≡◌, ◌++◌, ◌∷◌, ◌+◌, ◌≤◌, ℕ, None, List, [], length, map, replicate, take, string_bytes, IfOk, OnOk, IfSome};
 ghost use Rattle.std.specs.Str.Lossy.{utf8_lossy};
 ghost use Rattle.scenario.specs.PlaceTexts.{place_text};
 ghost use Rattle.scenario.specs.Setups.{setup_refusal};
+ghost use Rattle.scenario.specs.declared.setup.Setup.{Setup};
 ghost use Rattle.machine.specs.Whole.{view};
-ghost use Rattle.timeline_values.specs.Values.{value_texts, value_listed, places_at, values_of, values_below, all_values, bytes_below, object_regions, setup_regions, IsRegionShown, AreRegions, AreValues};
+ghost use Rattle.timeline_values.specs.Values.{value_texts, value_listed, places_at, values_of, values_below, all_values, bytes_below, object_regions, setup_regions, region_listed, IsRegionShown, AreRegions, AreValues};
 
 use crate::changes::{add_byte, value_string};
 use crate::parts::ValuePart;
@@ -94,6 +95,14 @@ fn add_values_at(
     Ok(())
 }
 
+// Returns a number, at most `count`. From it on, places with a number below `count` are absent.
+fn numbered_below(state: &State, count: u32) -> u32
+    ensures { (s : Setup) → values_below s (view state.now) result
+        ≡ values_below s (view state.now) count }
+{
+    state.numbered_below().max(PARTS).min(count)
+}
+
 // Returns the values of all places that are no bytes, of those with a number below `count`.
 fn values_of(
     alloc: Global,
@@ -106,15 +115,28 @@ fn values_of(
 {
     let mut out = Vec::new(alloc);
     add_values(alloc, &mut out, setup, state, &lone_places())?;
-    for number in 0..count {
+    let end = numbered_below(state, count);
+    for number in 0..end {
         add_values_at(alloc, &mut out, setup, state, number)?;
     }
     Ok(out)
 }
 
-// Returns the bytes of a region below an index.
+// Returns the first `count` bytes, or all if there are fewer.
+fn first_bytes(bytes: &[u8], count: u32) -> &[u8]
+    ensures { result.now ≡ take count bytes.entry.now }
+{
+    &bytes[..bytes.len().min(count as usize)]
+}
+
+// Returns the bytes of a region below an index, reading one after the other.
 #[tactic(auto, using(crate::proofs::Valued::bytes_more))]
-fn bytes_of(alloc: Global, state: &State, region: Region, count: u32) -> Result<Vec<u8>, AllocError>
+fn read_bytes(
+    alloc: Global,
+    state: &State,
+    region: Region,
+    count: u32,
+) -> Result<Vec<u8>, AllocError>
     ensures { IfOk result (λ bytes. bytes.items ≡ bytes_below (view state.now) region count) }
 {
     let mut bytes = Vec::new(alloc);
@@ -124,26 +146,38 @@ fn bytes_of(alloc: Global, state: &State, region: Region, count: u32) -> Result<
     Ok(bytes)
 }
 
-// Returns bytes without the zero at their end, or None if they don't end in one.
-fn without_zero(bytes: &[u8]) -> Option<&[u8]>
-    ensures zero { IfSome result (λ front. bytes.entry.now ≡ front.now ++ 0 ∷ []) }
-    ensures shorter { IfSome result (λ front. length front.now + 1 ≡ length bytes.entry.now) }
-{
-    match bytes.split_last() {
-        Some((last, front)) if *last == 0 => Some(front),
-        _ => None,
-    }
-}
-
 // Returns bytes without the zeros at their end.
 fn without_zeros(bytes: &[u8]) -> &[u8]
     ensures { (zeros : ℕ) × (bytes.entry.now ≡ result.now ++ replicate zeros 0) }
 {
-    let mut rest = bytes;
-    while let Some(front) = without_zero(rest) {
-        rest = front;
+    let mut end = bytes.len();
+    while end > 0 && bytes[end - 1] == 0 {
+        end -= 1;
     }
-    rest
+    &bytes[..end]
+}
+
+// Adds a region, given its first bytes, unless all are zeros.
+fn add_bytes(
+    alloc: Global,
+    out: &mut Vec<ValuePart>,
+    setup: &Setup,
+    region: Region,
+    whole: &[u8],
+) -> Result<(), AllocError>
+    ensures { OnOk result ((parts : List ValuePart) × (bytes : List ℕ) × (zeros : ℕ)
+        × (out.new.items ≡ out.old.items ++ parts)
+        × (whole.entry.now ≡ bytes ++ replicate zeros 0)
+        × (map value_texts parts ≡ region_listed setup.entry.now region bytes)) }
+{
+    let bytes = without_zeros(whole);
+    if bytes.is_empty() {
+        return Ok(());
+    }
+    let name = place_string(alloc, setup, region.place(0))?;
+    let text = STANDARD.encode(alloc, bytes)?;
+    out.push(ValuePart(name, text))?;
+    Ok(())
 }
 
 // Adds the first `count` bytes of a region, unless all are zeros.
@@ -158,15 +192,11 @@ fn add_region(
     ensures { OnOk result ((parts : List ValuePart) × (out.new.items ≡ out.old.items ++ parts)
         × IsRegionShown setup.entry.now (view state.entry.now) count region parts) }
 {
-    let whole = bytes_of(alloc, state, region, count)?;
-    let bytes = without_zeros(whole.as_slice());
-    if bytes.is_empty() {
-        return Ok(());
+    if let Some(bytes) = state.bytes_in(region) {
+        return add_bytes(alloc, out, setup, region, first_bytes(bytes, count));
     }
-    let name = place_string(alloc, setup, region.place(0))?;
-    let text = STANDARD.encode(alloc, bytes)?;
-    out.push(ValuePart(name, text))?;
-    Ok(())
+    let bytes = read_bytes(alloc, state, region, count)?;
+    add_bytes(alloc, out, setup, region, bytes.as_slice())
 }
 
 // Adds the regions of an object. An eventfd has none.

@@ -1,5 +1,5 @@
 //! Queries about the requests of a state.
-ghost use Rattle.std.specs.Prelude.{◌≡◌, ◌<◌, IfSome, IfNone, length, slice_get};
+ghost use Rattle.std.specs.Prelude.{◌≡◌, ◌<◌, ◌≤◌, IfSome, IfNone, length, slice_get};
 ghost use Rattle.links_drains.specs.Numbered.{IsNextWhere, NoneWhere};
 ghost use Rattle.links_drains.specs.Queued.{next_queued, IsNextQueued, NoneQueuedFrom};
 ghost use Rattle.links_drains.specs.Units.{is_open, next_issued, IsNextIssued, NoneIssuedFrom};
@@ -19,6 +19,15 @@ use opcodes::{Choice, Op};
 use timeouts_cancel::count_by;
 
 impl State {
+    /// Returns how many requests there are. Doesn't allocate.
+    pub fn row_count(&self) -> u32
+        ensures count { result ≡ length self.now.table }
+        ensures few { result ≤ 65536 }
+        ensures formed { WellFormed self.now }
+    {
+        self.machine.table.len() as u32
+    }
+
     /// Returns a request by its number. Doesn't allocate.
     pub fn row(&self, number: u32) -> Option<Row>
         ensures row { result ≡ slice_get self.now.table number }

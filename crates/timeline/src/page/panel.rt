@@ -31,7 +31,7 @@ function findings_html() {
   const more = findings.length > MOST_FINDINGS ? paragraph(`and ${findings.length - MOST_FINDINGS} more`, 'faint') : '';
   return element('ol', {}, findings.slice(0, MOST_FINDINGS).map((it, k) => element('li', {}, element('button', {
     type: 'button', class: `finding ${it.fault ? 'is_fault' : 'is_note'}`, 'data-finding': k, 'data-moment': it.moment,
-  }, `<b>${plain(it.kind)}</b> <span class="faint">at ${it.moment}, ${it.fault ? 'fault' : 'note'}</span><span class="text">${plain(it.text)}</span>`))).join('')) + more;
+  }, `<b>${plain(it.kind)}</b> <span class="faint">${when(it)}, ${it.fault ? 'fault' : 'note'}</span><span class="text">${plain(it.text)}</span>`))).join('')) + more;
 }
 
 // Marks the findings at the moment in the list, and brings the first fault or note of them into view.
@@ -253,7 +253,7 @@ function here_html(next) {
   const text = next ? `Moment ${view.moment}: before event ${view.moment}, ${next.does}` : `Moment ${view.moment}: the end of this part`;
   const here = findings.filter((it) => it.moment === view.moment).sort((one, other) => other.fault - one.fault);
   return element('h2', {}, plain(text)) + `<p class="faint">${code(`goto ${view.moment}`)} shows this state in a session.</p>`
-    + here.slice(0, MOST_HERE).map((it) => element('p', {class: `here ${it.fault ? 'is_fault' : 'is_note'}`}, `<b>${plain(it.kind)}</b> ${plain(it.text)}`)).join('')
+    + here.slice(0, MOST_HERE).map((it) => element('p', {class: `here ${it.fault ? 'is_fault' : 'is_note'}`}, `<b>${plain(it.kind)}</b> ${it.since ? `<span class="faint">${when(it)}</span> ` : ''}${plain(it.text)}`)).join('')
     + (here.length > MOST_HERE ? paragraph(`and ${here.length - MOST_HERE} more`, 'faint') : '');
 }
 

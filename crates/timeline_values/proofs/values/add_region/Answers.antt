@@ -1,14 +1,19 @@
-use Rattle.std.proofs.Common.{◌∙◌, sym, ap}
-use Rattle.std.specs.Str.Lossy.{utf8_lossy}
-use Rattle.scenario.specs.PlaceTexts.{place_text}
+use Rattle.std.proofs.Common.{◌∙◌}
+use Rattle.std.proofs.lemmas.Result.{on_ok_weaker}
 use Rattle.machine.specs.Whole.{view}
-use Rattle.timeline_values.proofs.Valued.{region_shown}
+use Rattle.timeline_values.proofs.Valued.{bytes_at, region_shown}
 use Rattle.timeline_values.proofs.values.add_region.Goals as goal
+
+pub returns-in-Some : goal.returns-in-Some
+returns-in-Some c =
+    let v = view c.args.state.now in
+    let g = c.args.region in
+    let n = c.args.count in
+    let same = c.first_bytes.ensures ∙ bytes_at v g c.in-Some.bytes.now n c.in-Some.ensures in
+    on_ok_weaker c.add_bytes.result (λ w. (w.0, w.3, region_shown c.args.setup.now v n g _ w.1 w.2 w.0 same w.4 w.5)) c.add_bytes.ensures
 
 pub returns : goal.returns
 returns c =
-    let s = c.args.setup.now in
-    let some = sym c.is_empty.ensures ∙ c.if-is_empty.false in
-    let name = c.in_ok-name.ensures ∙ ap (λ p. utf8_lossy (place_text s p)) c.place.ensures in
-    let whole = sym c.in_ok-whole.ensures ∙ sym c.as_slice.ensures.value ∙ c.without_zeros-bytes.ensures.1 in
-    (_, c.in_ok-push.ensures.items, region_shown s (view c.args.state.now) c.args.count c.args.region c.without_zeros-bytes.result.now c.without_zeros-bytes.ensures.0 _ some whole name c.in_ok-text.ensures.text)
+    let v = view c.args.state.now in
+    let same = c.as_slice.ensures.value ∙ c.in_ok-bytes.ensures in
+    on_ok_weaker c.add_bytes-2.result (λ w. (w.0, w.3, region_shown c.args.setup.now v c.args.count c.args.region _ w.1 w.2 w.0 same w.4 w.5)) c.add_bytes-2.ensures
