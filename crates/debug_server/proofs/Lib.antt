@@ -13,7 +13,6 @@ pub mod Stopping
 pub mod Moving
 pub mod Faulting
 pub mod Stepping
-pub mod EagerRuns
 pub mod Walks
 pub mod Again
 pub mod SessionsAgain

@@ -5,7 +5,6 @@ pub mod Refusing
 pub mod Quitting
 pub mod Lines
 pub mod Transcripts
-pub mod Eager
 pub mod Tracing
 pub mod Pending
 pub mod Kinds

@@ -9,7 +9,7 @@ use Rattle.traces.specs.Setups.{canonical, IsTrace2}
 use Rattle.traces.specs.Spelling.{IsTrace}
 use Rattle.command_line.specs.declared.task.Form.{Form}
 use Rattle.command_line.specs.declared.task.Form.TheVariants.{Events, Whole}
-use Rattle.debug_server.specs.Eager.{IsEager, IsRefusedEagerly}
+use Rattle.eager_runs.specs.Eager.{IsEager, IsRefusedEagerly}
 use Rattle.debug_server.specs.declared.tracing.Traced.{Traced}
 
 -- The bytes are the trace of a setup and events in a form.

@@ -2,7 +2,6 @@
 #![tactic(auto)]
 
 mod answering;
-mod eager;
 mod faults;
 pub mod laws;
 mod lines;

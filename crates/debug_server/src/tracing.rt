@@ -10,14 +10,15 @@ ghost use Rattle.traces.specs.Faults.{IsFault};
 ghost use Rattle.traces.specs.Setups.{canonical, IsTrace2};
 ghost use Rattle.traces.specs.Spelling.{most_events, has_transfer, IsTrace};
 ghost use Rattle.traces.specs.declared.fault.TraceFault.{TraceFault};
+ghost use Rattle.eager_runs.specs.Eager.{IsEager, IsRefusedEagerly};
 ghost use Rattle.debug_server.specs.Kinds.{IsOf, OfScript, OfSchedule, OfMemory, OfTrace};
 ghost use Rattle.debug_server.specs.Tracing.{IsSpelling, IsTraceOf, IsEagerTrace, StopsEagerly};
 
-use crate::eager::eager_events;
 use crate::faults::RunFault;
 use crate::running::run_schedule;
 use crate::scripts::script_of;
 use command_line::Form;
+use eager_runs::{EagerFault, eager_run};
 use scenario::Event;
 use script::Script;
 use std::alloc::{AllocError, Global};
@@ -75,6 +76,23 @@ fn trace_eagerly(alloc: Global, script: &Script, form: Form) -> Result<Traced, R
             bytes,
         }),
         Err(_) => Err(RunFault::Memory),
+    }
+}
+
+// Returns the eager run of a script.
+fn eager_events(alloc: Global, script: &Script) -> Result<Vec<Event>, RunFault>
+    ensures accepts { IfOk result (λ events. Accepts (start script.now.setup) events.items) }
+    ensures eager { IfOk result (λ events.
+        IsEager script.now.setup script.now.schedule events.items) }
+    ensures few { IfOk result (λ events. length events.items ≤ 1048576) }
+    ensures schedule { IfErr result (λ e. (i : ℕ) → (n : Refusal) → e ≡ RunFault.Schedule i n
+        → IsRefusedEagerly script.now.setup script.now.schedule i n) }
+    ensures other { IfErr result (IsOf (OfSchedule ∷ OfMemory ∷ [])) }
+{
+    match eager_run(alloc, script.setup(), script.schedule()) {
+        Ok(events) => Ok(events),
+        Err(EagerFault::Refused(index, refusal)) => Err(RunFault::Schedule(index, refusal)),
+        Err(EagerFault::Memory) => Err(RunFault::Memory),
     }
 }
 

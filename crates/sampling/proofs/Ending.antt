@@ -1,10 +1,10 @@
 -- A machine in which no offered event is accepted is over.
 use Rattle.std.proofs.Common.{◌≡◌, ℕ, zero, suc, ◌+◌, ◌-◌, ◌<◌, ◌≤◌, ◌^◌, Bool, true, false, List, [], ◌∷◌, map, refl, sym, ap, ◌∙◌, subst, inl, inr, ◌⊎◌, arith, length, min, if◌then◌else◌}
-use Rattle.std.specs.Prelude.{Option, Some, None, is_none, nat_lt, ◌==◌, ◌||◌, ◌&&◌, not, slice_get}
+use Rattle.std.specs.Prelude.{Option, Some, None, is_none, nat_lt, ◌==◌, ◌||◌, not, slice_get}
 use Rattle.std.specs.Option.{option_map_or, option_and_then}
 use Rattle.std.proofs.lemmas.Option.{slice_get_past, slice_get_within}
 use Rattle.std.proofs.lemmas.List.{length-take, length-map}
-use Rattle.std.proofs.lemmas.Bool.{cases_lt}
+use Rattle.std.proofs.lemmas.Bool.{and_parts, cases_lt, or_cases, or_left, or_right}
 use Rattle.std.proofs.lemmas.Bool.Decides.{nat_tests}
 use Rattle.entries.specs.declared.choice.Choice.{Choice}
 use Rattle.entries.specs.declared.choice.Choice.TheVariants.{Full}
@@ -27,14 +27,15 @@ use Rattle.machine.specs.Submission.{offered}
 use Rattle.machine.specs.Whole.{WellFormed}
 use Rattle.quiescence.specs.Over.{IsIdle, IsOver}
 use Rattle.quiescence.proofs.InFull.{finishes_in_full}
+use Rattle.prompt_order.proofs.Dues.{none_of}
 use Rattle.sampling.specs.declared.draws.Source.{Source}
 use Rattle.sampling.specs.Draws.{draw, mixed, below, source_of}
 use Rattle.sampling.specs.Locks.{holds, locks, any_below, is_locked}
 use Rattle.sampling.specs.Offers.{if_ahead, offer_of, step_offer, take_of, awake_offer, poller_offer_by, poller_offer, drawn_choice, finish_offer, phase_offer, row_offer, smaller_of, least_value, least_ahead, tick_to, clock_offer}
 use Rattle.sampling.specs.Choosing.{NoneChosen}
-use Rattle.sampling.specs.Samples.{AllChosen, IsSample}
+use Rattle.sampling.specs.Samples.{AllNext, IsSample}
 use Rattle.sampling.specs.declared.draws.SampleOptions.{SampleOptions}
-use Rattle.sampling.proofs.RunLemmas.{few_threads}
+use Rattle.sampling.proofs.RunLemmas.{few_threads, next_accepted}
 use Rattle.scenario.specs.Setups.{setup_refusal}
 use Rattle.scenario.specs.declared.setup.Setup.{Setup}
 use Rattle.machine.specs.Runs.{start, run}
@@ -43,32 +44,11 @@ use Rattle.machine.proofs.Formed.{formed_after}
 use Rattle.machine.proofs.Growing.{grows_after}
 use Rattle.sampling.proofs.Deadlines.{ahead_at}
 use Rattle.sampling.proofs.Offering.{offer_thread, offer_row, no_thread}
-use Rattle.sampling.proofs.Ranking.{none_of}
 
 not_ready : (s : Source) (m : Machine) (actor : ℕ) (e : Event) → NoneChosen s m → offer_of s m actor ≡ Some e → refusal m e ≡ None → ⊥
 not_ready s m actor e n o r = n.none actor e (record { offered = o; accepted = r })
 
 -- ---- threads
-
-or_cases : (a b : Bool) → (a || b) ≡ true → (a ≡ true) ⊎ (b ≡ true)
-or_cases true b h = inl refl
-or_cases false b h = inr h
-
-pub or_left : (a b : Bool) → a ≡ true → (a || b) ≡ true
-or_left true b h = refl
-or_left false b h = absurd (cc)
-
-pub or_right : (a b : Bool) → b ≡ true → (a || b) ≡ true
-or_right true b h = refl
-or_right false b h = h
-
-pub and_left : (a b : Bool) → (a && b) ≡ true → a ≡ true
-and_left true b h = refl
-and_left false b h = absurd (cc)
-
-pub and_right : (a b : Bool) → (a && b) ≡ true → b ≡ true
-and_right true b h = h
-and_right false b h = absurd (cc)
 
 some_below : (f : ℕ → Bool) (n : ℕ) → any_below f n ≡ true → (k : ℕ) × (k < n) × (f k ≡ true)
 some_below f zero h = absurd (cc)
@@ -103,8 +83,8 @@ no_step s m t true e few n h =
 no_step s m t false e few n h =
     let k = holder m (not_free s.unlocked (is_locked m) e) in
     let low = k.1 in
-    let both = k.2 in
-    not_ready s m k.0 (Step k.0) n (step_free s m k.0 (omega (arith, low, few)) (or_right _ _ (and_left _ (is_none (refusal m (Step k.0))) both))) (none_of (refusal m (Step k.0)) (and_right (option_map_or holds (slice_get m.threads k.0) false) _ both))
+    let both = and_parts (option_map_or holds (slice_get m.threads k.0) false) (is_none (refusal m (Step k.0))) k.2 in
+    not_ready s m k.0 (Step k.0) n (step_free s m k.0 (omega (arith, low, few)) (or_right _ _ both.0)) (none_of (refusal m (Step k.0)) both.1)
 
 -- ---- the poller
 
@@ -282,18 +262,19 @@ over_here s m f few n (Tick d) h = no_tick s m d f n h
 
 -- ---- a whole run
 
-formed_run : (s : Source) (m : Machine) (es : List Event) → WellFormed m → AllChosen s m es → WellFormed (run m es)
-formed_run s m [] f h = f
-formed_run s m (e ∷ es) f h = formed_run s (after m e) es (formed_after m e f h.0.ready.accepted) h.1
+formed_run : (s : Source) (m : Machine) (from : ℕ) (es : List Event) (next : ℕ) → WellFormed m → AllNext s m from es next → WellFormed (run m es)
+formed_run s m from [] next f h = f
+formed_run s m from (e ∷ es) next f h = formed_run s (after m e) h.0 es next (formed_after m e f (next_accepted s m from e h.0 h.1)) h.2
 
 as_many : (m : Machine) (e : Event) → WellFormed m → refusal m e ≡ None → length (after m e).threads ≡ length m.threads
 as_many m e f h = sym (length-map (after m e).threads program_of) ∙ ap (λ ps. length ps) (sym (grows_after m e f h).setup.programs) ∙ length-map m.threads program_of
 
-few_run : (s : Source) (m : Machine) (es : List Event) → WellFormed m → AllChosen s m es → length m.threads ≤ 16 → length (run m es).threads ≤ 16
-few_run s m [] f h few = few
-few_run s m (e ∷ es) f h few =
-    let same = as_many m e f h.0.ready.accepted in
-    few_run s (after m e) es (formed_after m e f h.0.ready.accepted) h.1 (omega (arith, same, few))
+few_run : (s : Source) (m : Machine) (from : ℕ) (es : List Event) (next : ℕ) → WellFormed m → AllNext s m from es next → length m.threads ≤ 16 → length (run m es).threads ≤ 16
+few_run s m from [] next f h few = few
+few_run s m from (e ∷ es) next f h few =
+    let accepted = next_accepted s m from e h.0 h.1 in
+    let same = as_many m e f accepted in
+    few_run s (after m e) h.0 es next (formed_after m e f accepted) h.2 (omega (arith, same, few))
 
 few_start : (s : Setup) → setup_refusal s ≡ None → length (map thread_start s.threads) ≤ 16
 few_start s h = let few = few_threads s h in let same = length-map s.threads thread_start in omega (arith, few, same)
@@ -301,4 +282,4 @@ few_start s h = let few = few_threads s h in let same = length-map s.threads thr
 pub ends_over : (setup : Setup) (options : SampleOptions) (seed number : ℕ) (es : List Event) → setup_refusal setup ≡ None → WellFormed (start setup) → IsSample setup options seed number es → length es < options.most → IsOver (run (start setup) es)
 ends_over setup options seed number es valid f h less =
     let s = source_of options seed number in
-    over_here s (run (start setup) es) (formed_run s (start setup) es f h.chosen) (few_run s (start setup) es f h.chosen (few_start setup valid)) (h.ends less)
+    over_here s (run (start setup) es) (formed_run s (start setup) 0 es h.next f h.all) (few_run s (start setup) 0 es h.next f h.all (few_start setup valid)) (h.ends less).none

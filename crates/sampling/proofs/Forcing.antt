@@ -1,15 +1,13 @@
 -- Events that each run does next, whatever it draws.
-use Rattle.std.proofs.Common.{◌≡◌, ℕ, zero, suc, ◌+◌, ◌<◌, ◌≤◌, Bool, true, false, List, [], ◌∷◌, ◌++◌, length, take, refl, sym, ap, ◌∙◌, subst, inl, inr, arith, if◌then◌else◌}
-use Rattle.std.specs.Prelude.{Option, Some, None, is_none, not, nat_lt, ◌||◌, ◌==◌, slice_get}
+use Rattle.std.proofs.Common.{◌≡◌, ℕ, suc, ◌<◌, ◌≤◌, Bool, true, false, refl, sym, ap, ◌∙◌, subst, inl, inr, arith, if◌then◌else◌}
+use Rattle.std.specs.Prelude.{Option, Some, None, is_none, not, ◌||◌, ◌==◌, slice_get}
 use Rattle.std.specs.Option.{option_map_or}
-use Rattle.std.proofs.lemmas.Bool.{cases_lt}
-use Rattle.std.proofs.lemmas.Bool.Decides.{nat_tests}
-use Rattle.entries.specs.declared.row.Row.{Row}
+use Rattle.std.proofs.lemmas.Bool.{and_parts, cases_lt, or_left, or_right}
 use Rattle.entries.specs.declared.row.Phase.{Phase}
 use Rattle.entries.specs.declared.row.Phase.TheVariants.{Queued, Issued, Ended}
 use Rattle.links_drains.specs.Phases.{is_issued, is_unfinished}
 use Rattle.links_drains.specs.Numbered.{NoneWhere}
-use Rattle.links_drains.specs.Units.{is_open, NoneIssuedFrom}
+use Rattle.links_drains.specs.Units.{is_open}
 use Rattle.ring_words.specs.Rings.{waiting}
 use Rattle.sqpoll.specs.declared.poller.Poller.{Poller}
 use Rattle.sqpoll.specs.declared.poller.Poller.TheVariants.{Awake, Asleep}
@@ -19,15 +17,15 @@ use Rattle.scenario.specs.declared.event.Refusal.{Refusal}
 use Rattle.scenario.specs.declared.event.Refusal.TheVariants.{NotIdle}
 use Rattle.machine.specs.declared.whole.Machine.{Machine}
 use Rattle.machine.specs.Steps.{refusal, sleep_refusal}
+use Rattle.prompt_order.proofs.Dues.{none_of}
 use Rattle.sampling.specs.declared.draws.Source.{Source}
-use Rattle.sampling.specs.Locks.{holds, locks, is_locked}
-use Rattle.sampling.specs.Offers.{offer_of, rank_of, poller_offer, poller_offer_by, clock_offer, tick_to, least_ahead}
+use Rattle.sampling.specs.Locks.{holds, is_locked}
+use Rattle.sampling.specs.Offers.{offer_of, rank_of, poller_offer, poller_offer_by, clock_offer, tick_to}
 use Rattle.sampling.specs.Choosing.{IsReady, IsChosen}
-use Rattle.sampling.specs.Samples.{IsForced, SaysOnly}
+use Rattle.sampling.specs.Samples.{SaysOnly}
 use Rattle.sampling.proofs.Deadlines.{least_end}
-use Rattle.sampling.proofs.Ending.{or_left, or_right, and_left, and_right, step_free, not_free, holder}
+use Rattle.sampling.proofs.Ending.{step_free, not_free, holder}
 use Rattle.sampling.proofs.Offering.{offer_thread, step_is, row_closed, rows_idle}
-use Rattle.sampling.proofs.Ranking.{none_of}
 use Rattle.sampling.proofs.Repeating.{offered_below}
 
 -- ---- the poller
@@ -71,8 +69,9 @@ module _ (s : Source) (m : Machine) (t : ℕ) (low : t < 16) (only : (n : ℕ) �
   may_step true e = or_left _ _ e
   may_step false e =
       let k = holder m (not_free s.unlocked (is_locked m) e) in
-      let same = alone k.0 (none_of (refusal m (Step k.0)) (and_right (option_map_or holds (slice_get m.threads k.0) false) _ k.2)) in
-      or_right _ _ (subst (λ (a : ℕ). option_map_or holds (slice_get m.threads a) false ≡ true) same (and_left _ (is_none (refusal m (Step k.0))) k.2))
+      let both = and_parts (option_map_or holds (slice_get m.threads k.0) false) (is_none (refusal m (Step k.0))) k.2 in
+      let same = alone k.0 (none_of (refusal m (Step k.0)) both.1) in
+      or_right _ _ (subst (λ (a : ℕ). option_map_or holds (slice_get m.threads a) false ≡ true) same both.0)
 
   offered : offer_of s m t ≡ Some (Step t)
   offered = step_free s m t low (may_step (s.unlocked || not (is_locked m)) refl)
@@ -100,7 +99,7 @@ is_thread s m t alone none poller k f r = elim (cases_lt k 16) [
 ]
 
 -- Where one thread can do a step and nothing else can happen, each run does that step.
-pub step_forced : (m : Machine) (t : ℕ) → t < 16 → NoneWhere is_open m.table 0 → ((s : Source) → poller_offer s m ≡ None) → ((n : ℕ) → SaysOnly m n (Some t)) → IsForced m (Step t)
+pub step_forced : (m : Machine) (t : ℕ) → t < 16 → NoneWhere is_open m.table 0 → ((s : Source) → poller_offer s m ≡ None) → ((n : ℕ) → SaysOnly m n (Some t)) → (s : Source) → IsChosen s m (Step t)
 step_forced m t low none poller only s = record {
   actor = t;
   ready = record { offered = offered s m t low only; accepted = (only 0).0 };

@@ -7,3 +7,4 @@ pub mod Deadlines
 pub mod Ending
 pub mod Forcing
 pub mod LockedRuns
+pub mod Prompting

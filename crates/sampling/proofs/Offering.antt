@@ -2,7 +2,7 @@
 use Rattle.std.proofs.Common.{◌≡◌, ℕ, ◌+◌, ◌-◌, ◌<◌, ◌≤◌, Bool, true, false, refl, sym, ap, ◌∙◌, subst, arith, length, if◌then◌else◌}
 use Rattle.std.specs.Prelude.{Option, Some, None, nat_lt, ◌==◌, ◌||◌, not, slice_get}
 use Rattle.std.specs.Option.{option_map, option_map_or, option_and_then}
-use Rattle.std.proofs.lemmas.Option.{slice_get_past, slice_get_within}
+use Rattle.std.proofs.lemmas.Option.{slice_get_past}
 use Rattle.std.proofs.lemmas.Bool.Decides.{nat_tests}
 use Rattle.entries.specs.declared.row.Row.{Row}
 use Rattle.entries.specs.declared.row.Phase.{Phase}
@@ -114,6 +114,3 @@ best_is_chosen s m b h = record {
 
 pub none_is_chosen : (s : Source) (m : Machine) → SaysBest s m 65554 None → NoneChosen s m
 none_is_chosen s m h = record { none = λ k f r. h.holds k (offered_below s m k f r.offered) f r }
-
-pub open_within : (m : Machine) (from r : ℕ) → IsNextWhere is_open m.table from r → r < length m.table
-open_within m from r next = slice_get_within m.table r next.row next.there

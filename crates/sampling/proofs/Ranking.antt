@@ -7,6 +7,7 @@ use Rattle.scenario.specs.declared.event.Event.{Event}
 use Rattle.scenario.specs.declared.event.Refusal.{Refusal}
 use Rattle.machine.specs.declared.whole.Machine.{Machine}
 use Rattle.machine.specs.Steps.{refusal}
+use Rattle.prompt_order.proofs.Dues.{none_of}
 use Rattle.sampling.specs.declared.draws.Source.{Source}
 use Rattle.sampling.specs.declared.choosing.Best.{Best}
 use Rattle.sampling.specs.Offers.{offer_of, rank_of}
@@ -78,10 +79,6 @@ is_best s m n rank best e ranked above ready h = record {
 refused : (o : Option Refusal) → is_none o ≡ false → o ≡ None → ⊥
 refused None n e = cc
 refused (Some x) n e = cc
-
-pub none_of : (o : Option Refusal) → is_none o ≡ true → o ≡ None
-none_of None n = refl
-none_of (Some x) n = absurd (cc)
 
 by_test : (s : Source) (m : Machine) (n rank : ℕ) (best : Option Best) (e : Event) (b : Bool) → is_none (refusal m e) ≡ b → rank ≡ rank_of s m n → beats rank best ≡ true → offer_of s m n ≡ Some e → SaysBest s m n best → SaysBest s m (n + 1) (if b then Some (record { rank = rank; event = e }) else best)
 by_test s m n rank best e true t ranked above offered h = is_best s m n rank best e ranked above (record { offered = offered; accepted = none_of (refusal m e) t }) h

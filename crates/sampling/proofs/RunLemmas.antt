@@ -1,5 +1,5 @@
 -- Runs of chosen events.
-use Rattle.std.proofs.Common.{◌≡◌, ℕ, zero, suc, ◌-◌, ◌<◌, ◌≤◌, List, [], ◌∷◌, ◌++◌, length, take, drop, map, refl, sym, ap, ◌∙◌, subst, arith, length-append, append_assoc, Bool, true, false}
+use Rattle.std.proofs.Common.{◌≡◌, ℕ, zero, suc, ◌-◌, ◌<◌, ◌≤◌, List, [], ◌∷◌, ◌++◌, length, take, drop, map, refl, sym, ap, ◌∙◌, subst, inl, inr, arith, length-append, append_assoc, Bool, true, false}
 use Rattle.std.specs.Prelude.{Some, None, nat_le, ◌&&◌, slice_get}
 use Rattle.std.proofs.lemmas.Bool.Decides.{nat_tests}
 use Rattle.std.proofs.Math.Seq.{take-append_seam, get_or-append_seam}
@@ -13,18 +13,18 @@ use Rattle.machine.specs.declared.whole.Machine.{Machine}
 use Rattle.machine.specs.Threads.{program_of, thread_start}
 use Rattle.machine.specs.Whole.{view, WellFormed}
 use Rattle.places.specs.View.{Exact, LeadsBack}
-use Rattle.machine.specs.Steps.{after, Next}
-use Rattle.machine.specs.Runs.{start, run, moment, Accepts, Link, Linked}
+use Rattle.machine.specs.Steps.{refusal, after, Next}
+use Rattle.machine.specs.Runs.{start, run, Accepts, Link, Linked}
 use Rattle.machine.proofs.Growing.{grows_after}
 use Rattle.machine.proofs.LinkedRuns.{linked_runs, linked_accepts, linked_more, linked_take}
 use Rattle.runs.specs.Moments.{IsAt, IsBefore, IsAfter}
 use Rattle.runs.proofs.Continuing.{is_after}
 use Rattle.machine.proofs.StartLemmas.{accepted}
 use Rattle.sampling.specs.declared.draws.Source.{Source}
-use Rattle.sampling.specs.Choosing.{IsChosen, NoneChosen}
 use Rattle.sampling.specs.declared.draws.SampleOptions.{SampleOptions}
 use Rattle.sampling.specs.Draws.{source_of}
-use Rattle.sampling.specs.Samples.{AllChosen, IsRun, IsBegun, IsBegin, IsForced, IsOpening, IsLast}
+use Rattle.prompt_order.proofs.Dues.{due_active}
+use Rattle.sampling.specs.Samples.{IsNext, AllNext, IsEnd, IsRun, IsBegun, IsBegin, IsForced, IsOpening, IsLast}
 
 -- ---- programs
 
@@ -53,35 +53,41 @@ few_threads s h = by (nat_le (length s.threads) 16) refl (accepted s h).programs
     by true e k = grind (arith, nat_tests)
     by false e k = let f = ap (λ x. x && true) e in absurd cc
 
--- ---- chosen events
+-- ---- the next events
 
-chosen_more : (s : Source) (m : Machine) (es : List Event) (e : Event) → AllChosen s m es → IsChosen s (run m es) e → AllChosen s m (es ++ e ∷ [])
-chosen_more s m [] e h k = (k, tt)
-chosen_more s m (f ∷ fs) e h k = (h.0, chosen_more s (after m f) fs e h.1 k)
+pub next_accepted : (s : Source) (m : Machine) (from : ℕ) (e : Event) (next : ℕ) → IsNext s m from e next → refusal m e ≡ None
+next_accepted s m from e next (inl h) = (due_active m from h.request e h.due).accepted
+next_accepted s m from e next (inr h) = h.chosen.ready.accepted
 
-one_chosen : (s : Source) (m n : Machine) (es fs : List Event) (rs : List (List Change)) (e : Event) → Linked m es rs n → AllChosen s m es → IsChosen s n e → fs ≡ es ++ e ∷ [] → AllChosen s m fs
-one_chosen s m n es fs rs e l h k is = subst (λ xs. AllChosen s m xs) (sym is) (chosen_more s m es e h (subst (λ (x : Machine). IsChosen s x e) (linked_runs m n es rs l) k))
+next_more : (s : Source) (m : Machine) (from : ℕ) (es : List Event) (mid : ℕ) (e : Event) (next : ℕ) → AllNext s m from es mid → IsNext s (run m es) mid e next → AllNext s m from (es ++ e ∷ []) next
+next_more s m from [] mid e next h k = (next, subst (λ (n : ℕ). IsNext s m n e next) (sym h) k, refl)
+next_more s m from (f ∷ fs) mid e next h k = (h.0, h.1, next_more s (after m f) h.0 fs mid e next h.2 k)
+
+one_next : (s : Source) (m n : Machine) (es fs : List Event) (rs : List (List Change)) (mid : ℕ) (e : Event) (next : ℕ) → Linked m es rs n → AllNext s m 0 es mid → IsNext s n mid e next → fs ≡ es ++ e ∷ [] → AllNext s m 0 fs next
+one_next s m n es fs rs mid e next l h k is = subst (λ xs. AllNext s m 0 xs next) (sym is) (next_more s m 0 es mid e next h (subst (λ (x : Machine). IsNext s x mid e next) (linked_runs m n es rs l) k))
 
 within_more : (es fs : List Event) (e : Event) (most : ℕ) → fs ≡ es ++ e ∷ [] → length es < most → length fs ≤ most
 within_more es fs e most is less = let grown = ap (λ xs. length xs) is ∙ length-append es (e ∷ []) in omega (arith, grown, less)
 
-pub begun_more : (s : Source) (most : ℕ) (m n o : Machine) (es fs : List Event) (rs qs : List (List Change)) (e : Event) → IsBegun s most m es rs n → length es < most → IsChosen s n e → fs ≡ es ++ e ∷ [] → Linked m fs qs o → IsBegun s most m fs qs o
-begun_more s most m n o es fs rs qs e h less k is l = record {
-  chosen = one_chosen s m n es fs rs e h.linked h.chosen k is;
+pub begun_more : (s : Source) (most : ℕ) (m n o : Machine) (es fs : List Event) (mid : ℕ) (rs qs : List (List Change)) (e : Event) (next : ℕ) → IsBegun s most m es mid rs n → length es < most → IsNext s n mid e next → fs ≡ es ++ e ∷ [] → Linked m fs qs o → IsBegun s most m fs next qs o
+begun_more s most m n o es fs mid rs qs e next h less k is l = record {
+  all = one_next s m n es fs rs mid e next h.linked h.all k is;
   within = within_more es fs e most is less;
   linked = l;
 }
 
-pub run_ends : (s : Source) (most : ℕ) (m n : Machine) (es : List Event) (rs : List (List Change)) → IsBegun s most m es rs n → NoneChosen s n → IsRun s most m es
-run_ends s most m n es rs h none = record {
-  chosen = h.chosen;
+pub run_ends : (s : Source) (most : ℕ) (m n : Machine) (es : List Event) (next : ℕ) (rs : List (List Change)) → IsBegun s most m es next rs n → IsEnd s n next → IsRun s most m 0 es
+run_ends s most m n es next rs h end = record {
+  next = next;
+  all = h.all;
   within = h.within;
-  ends = λ less. subst (λ (x : Machine). NoneChosen s x) (linked_runs m n es rs h.linked) none;
+  ends = λ less. subst (λ (x : Machine). IsEnd s x next) (linked_runs m n es rs h.linked) end;
 }
 
-pub run_is_full : (s : Source) (most : ℕ) (m n : Machine) (es : List Event) (rs : List (List Change)) → IsBegun s most m es rs n → most ≤ length es → IsRun s most m es
-run_is_full s most m n es rs h full = record {
-  chosen = h.chosen;
+pub run_is_full : (s : Source) (most : ℕ) (m n : Machine) (es : List Event) (next : ℕ) (rs : List (List Change)) → IsBegun s most m es next rs n → most ≤ length es → IsRun s most m 0 es
+run_is_full s most m n es next rs h full = record {
+  next = next;
+  all = h.all;
   within = h.within;
   ends = λ (less : length es < most). absurd (omega (arith, less, full));
 }
@@ -142,16 +148,16 @@ unwound s m n es fs rs qs k l f q is = rw (f, q, is) (linked_take s m es rs k l)
 -- ---- the opening
 
 -- A forced event more.
-pub opening_more : (s : Setup) (o : SampleOptions) (m : Machine) (es fs : List Event) (rs : List (List Change)) (e : Event) → IsOpening s o es → Linked (start s) es rs m → length es < o.most → IsForced m e → fs ≡ es ++ e ∷ [] → IsOpening s o fs
-opening_more s o m es fs rs e h l less forced is = record {
-  chosen = λ seed number. one_chosen (source_of o seed number) (start s) m es fs rs e l (h.chosen seed number) (forced (source_of o seed number)) is;
+pub opening_more : (s : Setup) (o : SampleOptions) (m : Machine) (es fs : List Event) (rs : List (List Change)) (mid : ℕ) (e : Event) (next : ℕ) → IsOpening s o es mid → Linked (start s) es rs m → length es < o.most → IsForced o.late m mid e next → fs ≡ es ++ e ∷ [] → IsOpening s o fs next
+opening_more s o m es fs rs mid e next h l less forced is = record {
+  all = λ seed number. one_next (source_of o seed number) (start s) m es fs rs mid e next l (h.all seed number) (forced (source_of o seed number) refl) is;
   within = within_more es fs e o.most is less;
 }
 
 -- An opening is the beginning of each run.
-pub opening_begun : (s : Setup) (o : SampleOptions) (source : Source) (m : Machine) (es : List Event) (rs : List (List Change)) (seed number : ℕ) → IsOpening s o es → Linked (start s) es rs m → source ≡ source_of o seed number → IsBegun source o.most (start s) es rs m
-opening_begun s o source m es rs seed number h l is = record {
-  chosen = subst (λ (x : Source). AllChosen x (start s) es) (sym is) (h.chosen seed number);
+pub opening_begun : (s : Setup) (o : SampleOptions) (source : Source) (m : Machine) (es : List Event) (next : ℕ) (rs : List (List Change)) (seed number : ℕ) → IsOpening s o es next → Linked (start s) es rs m → source ≡ source_of o seed number → IsBegun source o.most (start s) es next rs m
+opening_begun s o source m es next rs seed number h l is = record {
+  all = subst (λ (x : Source). AllNext x (start s) 0 es next) (sym is) (h.all seed number);
   within = h.within;
   linked = l;
 }

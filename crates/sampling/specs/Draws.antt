@@ -59,4 +59,5 @@ source_of options seed number = record {
   short_tenths = if options.sound_device then 0 else short_tenths (key_of seed number);
   eio_tenths = if options.sound_device then 0 else eio_tenths (key_of seed number);
   unlocked = options.unlocked;
+  late = options.late;
 }

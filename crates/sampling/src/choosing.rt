@@ -1,12 +1,14 @@
 //! Choosing the next event of a run.
-ghost use Rattle.std.specs.Prelude.{◌≡◌, ◌<◌, ◌+◌, ◌≤◌, ◌||◌, false, not, Some, None, IfSome, IfNone, map, slice_get, if◌then◌else◌};
+ghost use Rattle.std.specs.Prelude.{◌≡◌, ℕ, ◌<◌, ◌+◌, ◌≤◌, ◌||◌, ◌⊎◌, true, false, length, not, Some, None, IfSome, IfNone, map, slice_get, if◌then◌else◌};
 ghost use Rattle.std.specs.Option.{option_map, option_map_or};
 ghost use Rattle.machine.specs.Threads.{program_of};
 ghost use Rattle.scenario.specs.declared.event.Event.TheVariants.{Step};
 ghost use Rattle.sampling.specs.Choosing.{SaysBest, IsChosen, NoneChosen, beats, challenged};
+ghost use Rattle.sampling.specs.Samples.{IsNext, IsEnd};
 ghost use Rattle.sampling.specs.Locks.{is_locked, holds};
 ghost use Rattle.sampling.specs.Offers.{rank_at, thread_position, row_position};
 ghost use Rattle.sampling.specs.Spots.{spot_of};
+ghost use Rattle.prompt_order.specs.Prompt.{IsDue, NothingDue};
 
 use crate::draws::{Source, mixed};
 use crate::locks::{Spot, holds, is_locked, spot_of};
@@ -14,6 +16,7 @@ use crate::offers::{clock_offer, poller_offer};
 use crate::program::Program;
 use crate::rows::row_offer;
 use machine::{Event, State};
+use prompt_order::{begun_by, next_due};
 
 /// The number of the poller among the actors. The threads come before it.
 pub(crate) const POLLER: u64 = 16;
@@ -31,9 +34,55 @@ pub(crate) struct Best {
     pub(crate) event: Event,
 }
 
-/// Returns the next event of a run, or None if no event that an actor offers is accepted. Doesn't
-/// allocate.
-pub(crate) fn next_event(state: &State, program: &Program<'_>, source: &Source) -> Option<Event>
+/// The next event of a run.
+#[derive(Clone, Copy)]
+pub(crate) struct NextEvent {
+    pub(crate) event: Event,
+    /// The first request of the last submission after it.
+    pub(crate) row: u32,
+}
+
+/// Returns the next event of a run whose last submission is of the requests from number `from` on,
+/// or None if that has ended and no event that an actor offers is accepted. Doesn't allocate.
+pub(crate) fn next_event(
+    state: &State,
+    program: &Program<'_>,
+    source: &Source,
+    from: u32,
+) -> Option<NextEvent>
+    requires programs { map program_of state.now.threads ≡ program.now.threads }
+    ensures some { IfSome result (λ n. IsNext source.now state.now from n.event n.row) }
+    ensures none { IfNone result (IsEnd source.now state.now from) }
+{
+    if let Some(next) = due_event(state, source.late, from) {
+        return Some(next);
+    }
+    let event = chosen_event(state, program, source)?;
+    let row = begun_by(state, event);
+    Some(NextEvent { event, row })
+}
+
+/// Returns what the submission of the requests from number `from` on does next, unless requests may
+/// be late.
+pub(crate) fn due_event(state: &State, late: bool, from: u32) -> Option<NextEvent>
+    ensures some { IfSome result (λ n. (late ≡ false)
+        × ((r : ℕ) × IsDue state.now from r n.event) × (n.row ≡ from)) }
+    ensures none { IfNone result ((late ≡ true) ⊎ NothingDue state.now from) }
+{
+    if late {
+        return None;
+    }
+    match next_due(state, from) {
+        Some(due) => Some(NextEvent {
+            event: due.event,
+            row: from,
+        }),
+        None => None,
+    }
+}
+
+// Returns the accepted event of the greatest rank. Doesn't allocate.
+fn chosen_event(state: &State, program: &Program<'_>, source: &Source) -> Option<Event>
     requires programs { map program_of state.now.threads ≡ program.now.threads }
     ensures some { IfSome result (IsChosen source.now state.now) }
     ensures none { IfNone result (NoneChosen source.now state.now) }

@@ -14,6 +14,8 @@ pub struct SampleOptions {
     pub unlocked: bool,
     /// Whether no transfer is short, and no device fails.
     pub sound_device: bool,
+    /// Whether requests may be issued later than by their submission, which a kernel doesn't do.
+    pub late: bool,
     /// The greatest number of events, 1 to 65,536.
     pub most: u32,
 }
@@ -27,6 +29,7 @@ pub(crate) struct Source {
     /// How many requests in ten fail with EIO.
     pub(crate) eio_tenths: u32,
     pub(crate) unlocked: bool,
+    pub(crate) late: bool,
 }
 
 /// How often transfers are short in a run, in tenths. A run draws one of these.
@@ -59,6 +62,7 @@ pub(crate) fn source_of(options: SampleOptions, seed: u64, number: u32) -> Sourc
             EIO_TENTHS[below(4, mixed(key, RATES, 1)) as usize]
         },
         unlocked: options.unlocked,
+        late: options.late,
     }
 }
 

@@ -4,13 +4,16 @@ ghost use Rattle.machine.specs.Runs.{start, Linked};
 ghost use Rattle.machine.specs.Threads.{program_of};
 ghost use Rattle.sampling.specs.declared.draws.Source.{Source};
 ghost use Rattle.sampling.specs.Offers.{poller_offer};
+ghost use Rattle.sampling.specs.Choosing.{IsChosen};
 ghost use Rattle.sampling.specs.Samples.{IsForced, IsOpening, SaysOnly, StaysSeen};
 
+use crate::choosing::{NextEvent, due_event};
 use crate::draws::SampleOptions;
 use crate::program::Program;
 use crate::running::advance;
 use crate::samples::Sample;
 use machine::{Event, Refusal, State};
+use prompt_order::begun_by;
 use runs::Observer;
 use std::alloc::AllocError;
 
@@ -23,33 +26,49 @@ pub fn begin<O: Observer>(
     into: &mut Sample,
     observer: &mut O,
 ) -> Result<(), AllocError>
-    requires opening { IsOpening program.now options into.old.events.items }
+    requires opening { IsOpening program.now options into.old.events.items into.old.next_row }
     requires linked { Linked (start program.now) into.old.events.items into.old.records.items
         state.old }
     requires most { options.most ≤ 1048576 }
     requires stays { StaysSeen O.has_seen program.now }
     requires seen { O.has_seen observer.old program.now into.old.events.items
         (length into.old.events.items) }
-    ensures opening { OnOk result (IsOpening program.now options into.new.events.items) }
+    ensures opening { OnOk result (IsOpening program.now options into.new.events.items
+        into.new.next_row) }
     ensures linked { Linked (start program.now) into.new.events.items into.new.records.items
         state.new }
     ensures seen { OnOk result (O.has_seen observer.new program.now into.new.events.items
         (length into.new.events.items)) }
 {
     'events: while into.events.len() < options.most as usize {
-        let Some(event) = forced_event(state, program) else {
+        let Some(next) = forced(state, program, options.late, into.next_row) else {
             return Ok(());
         };
-        advance(state, program.setup(), event, into, observer)?;
+        advance(state, program.setup(), next.event, into, observer)?;
+        into.next_row = next.row;
     }
     Ok(())
 }
 
-// Returns the event that each run does next, or None if a draw may decide. Only a step of a thread
-// is such an event, where no request is incomplete and the poller does nothing.
-fn forced_event(state: &State, program: &Program<'_>) -> Option<Event>
+// Returns what each run does next whose last submission is of the requests from number `from` on,
+// or None if a draw may decide.
+fn forced(state: &State, program: &Program<'_>, late: bool, from: u32) -> Option<NextEvent>
     requires programs { map program_of state.now.threads ≡ program.now.threads }
-    ensures { IfSome result (IsForced state.now) }
+    ensures { IfSome result (λ n. IsForced late state.now from n.event n.row) }
+{
+    if let Some(next) = due_event(state, late, from) {
+        return Some(next);
+    }
+    let event = forced_step(state, program)?;
+    let row = begun_by(state, event);
+    Some(NextEvent { event, row })
+}
+
+// Returns the step that each run chooses. There is one only where no request is incomplete and the
+// poller does nothing.
+fn forced_step(state: &State, program: &Program<'_>) -> Option<Event>
+    requires programs { map program_of state.now.threads ≡ program.now.threads }
+    ensures { IfSome result (λ e. (s : Source) → IsChosen s state.now e) }
 {
     if state.next_unfinished(0).is_some() || has_poller_awake(state) {
         return None;

@@ -30,7 +30,7 @@ pub fn sample<O: Observer>(
     into: &mut Sample,
     observer: &mut O,
 ) -> Result<(), AllocError>
-    requires opening { IsOpening program.now options into.old.events.items }
+    requires opening { IsOpening program.now options into.old.events.items into.old.next_row }
     requires linked { Linked (start program.now) into.old.events.items into.old.records.items
         state.old }
     requires most { options.most ≤ 1048576 }
@@ -62,22 +62,25 @@ pub fn undo(state: &mut State, sample: &Sample)
     state.unwind(&sample.records);
 }
 
-/// Undoes the events of a run from number `opening` on. Doesn't allocate.
-pub fn rewind(state: &mut State, sample: &mut Sample, opening: usize)
+/// Undoes the events of a run from number `opening` on. The first request of the last submission was
+/// `next_row` then. Doesn't allocate.
+pub fn rewind(state: &mut State, sample: &mut Sample, opening: usize, next_row: u32)
     requires events { opening ≤ length sample.old.events.items }
     requires records { opening ≤ length sample.old.records.items }
     requires linked { (s : Machine) × Linked s sample.old.events.items sample.old.records.items
         state.old }
     ensures events { sample.new.events.items ≡ take opening sample.old.events.items }
+    ensures next_row { sample.new.next_row ≡ next_row }
     ensures linked { (s : Machine) → Linked s sample.old.events.items sample.old.records.items state.old
         → Linked s sample.new.events.items sample.new.records.items state.new }
 {
     state.unwind(&sample.records[opening..]);
     sample.events.truncate(opening);
     sample.records.truncate(opening);
+    sample.next_row = next_row;
 }
 
-// Does the events that are chosen, until there are `most` of them or none is left.
+// Does the events that come next, until there are `most` of them or none is left.
 fn run<O: Observer>(
     state: &mut State,
     program: &Program<'_>,
@@ -87,12 +90,12 @@ fn run<O: Observer>(
     observer: &mut O,
 ) -> Result<(), AllocError>
     requires begun { IsBegun source.now most (start program.now) into.old.events.items
-        into.old.records.items state.old }
+        into.old.next_row into.old.records.items state.old }
     requires most { most ≤ 1048576 }
     requires stays { StaysSeen O.has_seen program.now }
     requires seen { O.has_seen observer.old program.now into.old.events.items
         (length into.old.events.items) }
-    ensures run { OnOk result (IsRun source.now most (start program.now) into.new.events.items) }
+    ensures run { OnOk result (IsRun source.now most (start program.now) 0 into.new.events.items) }
     ensures begins { OnOk result (IsBegin into.old.events.items into.new.events.items) }
     ensures linked { Linked (start program.now) into.new.events.items into.new.records.items
         state.new }
@@ -100,10 +103,11 @@ fn run<O: Observer>(
         (length into.new.events.items)) }
 {
     'events: while into.events.len() < most as usize {
-        let Some(event) = next_event(state, program, source) else {
+        let Some(next) = next_event(state, program, source, into.next_row) else {
             return Ok(());
         };
-        advance(state, program.setup(), event, into, observer)?;
+        advance(state, program.setup(), next.event, into, observer)?;
+        into.next_row = next.row;
     }
     Ok(())
 }

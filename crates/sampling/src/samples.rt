@@ -11,6 +11,8 @@ pub struct Sample {
     pub events: Vec<Event>,
     /// The undo records of the events.
     pub records: Vec<Record>,
+    /// The first request of the last submission.
+    pub next_row: u32,
     /// Whether the state after the events is over.
     pub is_over: bool,
 }
@@ -20,10 +22,12 @@ impl Sample {
     pub fn new(alloc: Global) -> Sample
         ensures events { result.events.items ≡ [] }
         ensures records { result.records.items ≡ [] }
+        ensures next_row { result.next_row ≡ 0 }
     {
         Sample {
             events: Vec::new(alloc),
             records: Vec::new(alloc),
+            next_row: 0,
             is_over: false,
         }
     }

@@ -1,9 +1,10 @@
 -- Schedules that keep a goal.
-use Rattle.std.proofs.Common.{◌≡◌, ◌≤◌, true, List, length, sym, ◌∙◌, subst, arith}
+use Rattle.std.proofs.Common.{◌≡◌, ◌≤◌, Bool, true, false, List, length, refl, sym, ◌∙◌, subst, arith}
 use Rattle.std.specs.Prelude.{Option, Some, None, IfSome}
 use Rattle.scenario.specs.declared.event.Event.{Event}
 use Rattle.scenario.specs.declared.setup.Setup.{Setup}
 use Rattle.machine.specs.Runs.{start, Accepts}
+use Rattle.prompt_order.specs.Prompt.{IsPrompt, SaysPrompt}
 use Rattle.sampling.specs.Locks.{keep_lock}
 use Rattle.symptoms.specs.declared.symptom.Sighting.{Sighting}
 use Rattle.symptoms.specs.declared.symptom.Symptom.{Symptom}
@@ -21,6 +22,14 @@ candidate_if goal s es (Some x) same runs first short = record {
   short = short;
 }
 
+says_so : (b : Bool) (s : Setup) (es : List Event) → SaysPrompt b s es → b ≡ true → IsPrompt s es
+says_so true s es says h = says
+says_so false s es says h = absurd cc
+
+must_say : (b : Bool) (s : Setup) (es : List Event) → SaysPrompt b s es → IsPrompt s es → b ≡ true
+must_say true s es says h = refl
+must_say false s es says h = absurd (says h)
+
 -- A run keeps its own goal.
 pub kept_first : (s : Setup) (es : List Event) (wanted : Symptom) (x : Sighting) (goal : Goal) → IsGoal s es wanted x.finding goal → Accepts (start s) es → IsSighting s es wanted x → IsKept goal es x
 kept_first s es wanted x goal g runs sighting = record {
@@ -30,6 +39,7 @@ kept_first s es wanted x goal g runs sighting = record {
     short = let same = g.most in omega (arith, same);
   };
   lock = λ keeps. subst (λ (t : Setup). keep_lock (start t) es ≡ true) (sym g.setup) (sym g.lock ∙ keeps);
+  prompt = λ keeps. subst (λ (t : Setup). IsPrompt t es) (sym g.setup) (says_so goal.is_prompt s es g.prompt keeps);
 }
 
 -- A schedule that keeps the goal is made from the run.
@@ -44,4 +54,5 @@ shrunk_of s es wanted x goal fs y g sighting kept =
       short = let most = g.most in let short = k.short in omega (arith, most, short);
       over = shown_over s fs wanted x.finding y.moment same.shown;
       lock = λ keeps. subst (λ (t : Setup). keep_lock (start t) fs ≡ true) g.setup (kept.lock (g.lock ∙ keeps));
+      prompt = λ prompt. subst (λ (t : Setup). IsPrompt t fs) g.setup (kept.prompt (must_say goal.is_prompt s es g.prompt prompt));
     }

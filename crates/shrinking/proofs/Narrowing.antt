@@ -38,8 +38,8 @@ wider s es wanted kind m g h w = record {
 pub shown_wider : (s t : Setup) (es fs : List Event) (wanted : Symptom) (found : Option Finding) (m n : ℕ) → IsSeenAt s es wanted m found → Shows t fs (narrowed wanted found) n → Shows t fs wanted n
 shown_wider s t es fs (sought.Finding wanted) (Some f) m n seen shown = (shown.0, wider t fs wanted f.kind n shown.0 seen.kind shown.1)
 shown_wider s t es fs (sought.Finding wanted) None m n seen shown = absurd seen
-shown_wider s t es fs (sought.Reaches p v) (Some f) m n seen shown = absurd seen
-shown_wider s t es fs (sought.Reaches p v) None m n seen shown = shown
+shown_wider s t es fs (sought.Reaches goals) (Some f) m n seen shown = absurd seen
+shown_wider s t es fs (sought.Reaches goals) None m n seen shown = shown
 
 exact_at : (s : Setup) (es : List Event) (wanted : Wanted) (m : ℕ) (f : Finding) → IsWantedAt s es wanted m f → IsWantedAt s es (Exactly f.kind) m f
 exact_at s es wanted m f w = record { finding = w.finding; kind = compared.laws-law.refl f.kind; moment = w.moment }
@@ -47,14 +47,14 @@ exact_at s es wanted m f w = record { finding = w.finding; kind = compared.laws-
 seen_narrowed : (s : Setup) (es : List Event) (wanted : Symptom) (m : ℕ) (found : Option Finding) → IsSeenAt s es wanted m found → IsSeenAt s es (narrowed wanted found) m found
 seen_narrowed s es (sought.Finding wanted) m (Some f) seen = exact_at s es wanted m f seen
 seen_narrowed s es (sought.Finding wanted) m None seen = absurd seen
-seen_narrowed s es (sought.Reaches p v) m (Some f) seen = absurd seen
-seen_narrowed s es (sought.Reaches p v) m None seen = seen
+seen_narrowed s es (sought.Reaches goals) m (Some f) seen = absurd seen
+seen_narrowed s es (sought.Reaches goals) m None seen = seen
 
 shown_by : (s : Setup) (es : List Event) (wanted : Symptom) (m : ℕ) (found : Option Finding) → IsSeenAt s es wanted m found → Shows s es wanted m
 shown_by s es (sought.Finding wanted) m (Some f) seen = (f, seen)
 shown_by s es (sought.Finding wanted) m None seen = absurd seen
-shown_by s es (sought.Reaches p v) m (Some f) seen = absurd seen
-shown_by s es (sought.Reaches p v) m None seen = seen
+shown_by s es (sought.Reaches goals) m (Some f) seen = absurd seen
+shown_by s es (sought.Reaches goals) m None seen = seen
 
 -- The first sighting of a symptom is that of the narrowed one.
 pub narrowed_sighting : (s : Setup) (es : List Event) (wanted : Symptom) (x : Sighting) → IsSighting s es wanted x → IsSighting s es (narrowed wanted x.finding) x

@@ -5,9 +5,6 @@ use crate::costs::{Actor, actor_of};
 use machine::{Event, State};
 use std::alloc::{AllocError, Global};
 
-/// The greatest number of requests of a run.
-const MOST_ROWS: u32 = 65_536;
-
 /// Who submitted a request, and how many requests it had submitted before.
 #[derive(Clone, Copy, PartialEq, Eq)]
 struct Origin {
@@ -41,13 +38,7 @@ impl Origins {
 
     /// Adds the requests that an event submitted, given the state after it.
     pub(crate) fn note(&mut self, state: &State, event: Event) -> Result<(), AllocError> {
-        let Ok(first) = u32::try_from(self.origins.len()) else {
-            return Ok(());
-        };
-        for number in first..MOST_ROWS {
-            if state.row(number).is_none() {
-                return Ok(());
-            }
+        for _request in self.origins.len()..state.row_count() as usize {
             self.push(actor_of(event))?;
         }
         Ok(())

@@ -11,6 +11,7 @@ use crate::goal::Goal;
 use crate::passes::{Edit, cut, halve, settle, try_each};
 use finding_kinds::Finding;
 use machine::{Event, Setup};
+use prompt_order::is_prompt;
 use sampling::{Program, keep_lock};
 use std::alloc::{AllocError, Global};
 use symptoms::{Sighting, Symptom, Wanted};
@@ -25,8 +26,8 @@ pub struct Shrunk {
     pub sighting: Sighting,
 }
 
-// Returns the symptom that is kept: the kind of the finding, with its verdict, or the value of the
-// place.
+// Returns the symptom that is kept: the kind of the finding, with its verdict, or the values of
+// places.
 fn narrowed<'a>(symptom: &Symptom<'a>, finding: Option<Finding>) -> Symptom<'a>
     ensures { result ≡ narrowed symptom.now finding }
 {
@@ -53,6 +54,7 @@ fn goal_of<'a>(
         symptom: narrowed(symptom, finding),
         most: events.len(),
         keeps_lock: keep_lock(alloc, program, events)?,
+        is_prompt: is_prompt(alloc, program.setup(), events)?,
     })
 }
 
@@ -69,9 +71,9 @@ fn pass(alloc: Global, goal: Goal<'_>, best: &mut Best) -> Result<(), AllocError
 }
 
 /// Makes a schedule short, given the first sighting of a symptom in it. The short one shows a
-/// finding of the same kind, with its verdict, or the same value of the place. If no thread's step
-/// comes between another's put, push and enter, none does in the short one. Fails if an allocation
-/// fails.
+/// finding of the same kind, with its verdict, or the same values of places. If no thread's step
+/// comes between another's put, push and enter, none does in the short one. If the schedule is
+/// prompt, so is the short one. Fails if an allocation fails.
 #[tactic(auto, using(crate::proofs::Keeping::kept_first))]
 pub fn shrink(
     alloc: Global,

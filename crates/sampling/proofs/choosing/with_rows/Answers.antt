@@ -1,6 +1,7 @@
 use Rattle.std.proofs.Common.{◌≡◌, ℕ, ◌+◌, subst, arith}
 use Rattle.sampling.specs.Choosing.{SaysBest}
-use Rattle.sampling.proofs.Offering.{rows_before, rows_after, open_within}
+use Rattle.prompt_order.proofs.Dues.{row_there}
+use Rattle.sampling.proofs.Offering.{rows_before, rows_after}
 use Rattle.sampling.proofs.choosing.with_rows.Goals as goal
 
 pub rows-preserved : goal.rows-preserved
@@ -15,7 +16,7 @@ rows-preserved c =
 
 pub rows-smaller : goal.rows-smaller
 rows-smaller c =
-    let within = open_within c.args.state.now c.rows.from c.in-Some.r c.in-Some.ensures.some in
+    let within = row_there c.args.state.now c.rows.from c.in-Some.r c.in-Some.ensures.some in
     let after = c.in-Some.ensures.some.after in
     omega (arith, within, after)
 

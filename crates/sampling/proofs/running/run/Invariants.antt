@@ -1,4 +1,4 @@
-use Rattle.std.proofs.Common.{◌≡◌, ◌-◌, ◌≤◌, length, vec_len}
+use Rattle.std.proofs.Common.{◌-◌, length, vec_len}
 use Rattle.machine.specs.Runs.{start}
 use Rattle.sampling.specs.Samples.{IsBegun, IsBegin}
 use Rattle.sampling.proofs.running.run.Given as goal
@@ -6,7 +6,7 @@ use Rattle.sampling.proofs.running.run.Given as goal
 abbrev pub invariant-events : goal.invariant-events
 invariant-events g l = record {
   begins : IsBegin l.fn.into.events.items l.into.events.items;
-  begun : IsBegun l.source l.most (start l.program) l.into.events.items l.into.records.items l.state;
+  begun : IsBegun l.source l.most (start l.program) l.into.events.items l.into.next_row l.into.records.items l.state;
   seen : g.O.Observer.has_seen l.observer l.program l.into.events.items (length l.into.events.items);
 }
 

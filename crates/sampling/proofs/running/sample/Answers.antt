@@ -5,7 +5,7 @@ use Rattle.sampling.proofs.running.sample.Goals as goal
 
 pub run-requires-clause-begun : goal.run-requires-clause-begun
 run-requires-clause-begun g c =
-    opening_begun c.args.program.now c.args.options c.source_of-source.result c.args.state.now c.args.into.now.events.items c.args.into.now.records.items c.args.seed c.args.number c.requires.opening c.requires.linked c.source_of-source.ensures
+    opening_begun c.args.program.now c.args.options c.source_of-source.result c.args.state.now c.args.into.now.events.items c.args.into.now.next_row c.args.into.now.records.items c.args.seed c.args.number c.requires.opening c.requires.linked c.source_of-source.ensures
 
 pub returns-in_err-run-clause-accepts : goal.returns-in_err-run-clause-accepts
 returns-in_err-run-clause-accepts g c = accepts_from _ c.run.new.state c.run.new.into.events.items c.run.new.into.records.items c.run.ensures.linked

@@ -1,0 +1,2 @@
+pub mod EagerRuns
+pub mod Prompting
