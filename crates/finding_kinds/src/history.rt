@@ -86,6 +86,15 @@ pub struct Retry {
     pub more_bytes: u32,
 }
 
+/// A file with bytes that aren't durable at the end.
+#[derive(Clone, Copy)]
+pub struct Lost {
+    /// The object number of the file.
+    pub file: u32,
+    /// The number of the first WRITE that moved some of these bytes.
+    pub row: u32,
+}
+
 /// When requests changed phase, and other facts that sentences refer to.
 pub struct History {
     /// One element per request.
@@ -113,6 +122,8 @@ pub struct History {
     pub limited: Vec<u32>,
     /// In the order of their moments, at most one per moment.
     pub retries: Vec<Retry>,
+    /// In the order of their files. A file that no WRITE moved such bytes of is left out.
+    pub lost: Vec<Lost>,
 }
 
 impl Drop for History {
@@ -130,6 +141,7 @@ impl Drop for History {
             closes: _,
             limited: _,
             retries: _,
+            lost: _,
         } = self;
     }
 }
@@ -150,6 +162,7 @@ impl History {
             closes: Vec::new(alloc),
             limited: Vec::new(alloc),
             retries: Vec::new(alloc),
+            lost: Vec::new(alloc),
         }
     }
 }

@@ -16,7 +16,7 @@ mod values;
 pub use chains::distance_to_next;
 pub use descriptors::{FIRST_DESCRIPTOR, descriptor_number};
 pub use finding::Finding;
-pub use history::{Closed, Failure, History, Met, Reaped, Retry, Times};
+pub use history::{Closed, Failure, History, Lost, Met, Reaped, Retry, Times};
 pub use kind::{
     CancelKind, ConflictKind, EndedKind, Kind, LastingKind, LeftKind, QueuedKind, StepKind, Verdict,
 };

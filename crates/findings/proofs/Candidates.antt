@@ -1,6 +1,7 @@
 -- The followed numbers include every incomplete READ and WRITE, record by record.
 use Rattle.findings.proofs.Common.{◌≡◌, ℕ, Bool, true, false, cond, List, [], ◌∷◌, refl, Option, Some, None, slice_get, not, ◌==◌, option_map_or, filter, Row, Place, Request, Value, Change, View, Exact, Machine, view, inl, inr, sym, ap, ◌∙◌, subst, eqb-true, clash, named, is_candidate, is_candidate_in, followed, after_note, after_notes, Covers}
-use Rattle.findings.proofs.{Members.Has, Members.contains_has, Members.has_contains, Members.has_left, Members.has_right, Notes.change_there, Shown.row_in_requested}
+use Rattle.findings.proofs.{Notes.change_there, Shown.row_in_requested}
+use Rattle.finding_rules.proofs.Members.{Has, contains_has, has_contains, has_left, has_right}
 
 has_filter : (ns : List ℕ) (r q : ℕ) → Has ns q → (r ≡ q → ⊥) → Has (filter (λ k. not (k == r)) ns) q
 has_filter [] r q h g = absurd h

@@ -1,7 +1,8 @@
 -- What a search has seen, after one more event and at the end.
 use Rattle.findings.proofs.Common.{◌≡◌, ℕ, zero, suc, ◌+◌, ◌<◌, ◌≤◌, List, [], ◌++◌, length, map, get_or, slice_get, Bool, true, false, Option, Some, None, refl, option_map, option_map_or, All, Contains, flat_map, Row, Change, NamesOnce, Event, Setup, Machine, after, start, machine_at, view, WellFormed, SaysOver, IsAt, IsAfter, Finding, Kind, Ended, Overflow, Conflict, Queued, Cancel, TimespecInUse, instruction_at, Before, Written, Watch, inl, inr, sym, ap, ◌∙◌, subst, arith, cases_lt, cases_order, All-nil, All-append, All-weaker, All-map, All-contains, Contains-append_left, Contains-append_right, Contains-get_or, slice_get_past, clash, Circumstances, circumstances, overflows, done_as, done_at, completed_by, EndsOver, occurs, occurs_at, is_lost, judged_kind, Lasts, IsLeft, Retries, IsFinding, IsReportOf, Rises, noted_by, of_change, of_overflow, of_step, of_cancel, of_event, of_effect, after_notes, Covers, Adds, FoundBefore, RetriedBefore, IsLasting, AreLeft, IsAll, judged, all_at_end, SameFindings, facts_before, NotesFacts, HasSearched, Follows, FollowsFiles, Judges, advanced, watched, of_lasting}
 use Rattle.finding_kinds.specs.declared.kind.Kind.TheVariants.{Step}
-use Rattle.findings.proofs.{Candidates.covers_more, Candidates.covers_none, Groups.the_finding, Judging.judged_at_end, Lasting.advanced_more, Lasting.has_map, Lasting.lasting_reported, Lasting.watched_first, Left.left_reported, Members.Has, Members.contains_has, Members.has_contains, Members.has_left, Members.has_right, Noted.changes_alike, Noted.noted_circumstances, Shown.IsShown, Shown.ended_there, Shown.event_cancel, Shown.event_overflow, Shown.event_shown, Shown.event_step, Shown.queued_there, Shown.record_shown, Suspecting.follows_more, Suspecting.retried_within, Threads.threads_first, Threads.threads_more, WouldConflict.effect_done, WouldConflict.effect_there, WouldConflict.timespec_there}
+use Rattle.findings.proofs.{Candidates.covers_more, Candidates.covers_none, Groups.the_finding, Judging.judged_at_end, Lasting.advanced_more, Lasting.has_map, Lasting.lasting_reported, Lasting.watched_first, Left.left_reported, Noted.changes_alike, Noted.noted_circumstances, Shown.IsShown, Shown.ended_there, Shown.event_cancel, Shown.event_overflow, Shown.event_shown, Shown.event_step, Shown.queued_there, Shown.record_shown, Suspecting.follows_more, Suspecting.retried_within, Threads.threads_first, Threads.threads_more, WouldConflict.effect_done, WouldConflict.effect_there, WouldConflict.timespec_there}
+use Rattle.finding_rules.proofs.Members.{Has, contains_has, has_contains, has_left, has_right}
 
 -- A finding whose event is before moment n.
 abbrev IsEarly : Setup → List Event → ℕ → Finding → Type 0
@@ -204,10 +205,10 @@ all_found s es fs ls us rs gs h lasting left retried e = subst (IsAll s es) (sym
 -- At the end of a run, with the findings of what lasts or is left.
 pub seen_all : (s : Setup) (es : List Event) (m : Machine) (over : Bool) (fs js ks gs : List Finding) (numbers : List ℕ) (ws xs : List Watch) (writes vs : List Written) (sets : List (List ℕ)) (retried rs : List Finding)
     → HasSearched s es (length es) fs numbers ws writes sets retried → IsAt s es (length es) m → SaysOver over m → vs ≡ writes → Judges s m vs fs js → xs ≡ ws
-    → ks ≡ (js ++ flat_map (of_lasting over) xs) ++ all_at_end s (length es) over m → rs ≡ retried → gs ≡ ks ++ rs → IsAll s es gs
+    → ks ≡ (js ++ flat_map (of_lasting over m) xs) ++ all_at_end s (length es) over m → rs ≡ retried → gs ≡ ks ++ rs → IsAll s es gs
 seen_all s es m over fs js ks gs numbers ws xs writes vs sets retried rs h at says v j w e r g =
-    all_found s es fs _ _ retried gs h.found (lasting_reported s es over xs ends (w ∙ h.watching)) (left_reported s es over m ends at.here) h.files.retried
-    (g ∙ ap (λ (ys : List Finding). ks ++ ys) r ∙ ap (λ (ys : List Finding). ys ++ retried) (e ∙ ap (λ (ys : List Finding). (ys ++ flat_map (of_lasting over) xs) ++ all_at_end s (length es) over m) judged_now))
+    all_found s es fs _ _ retried gs h.found (lasting_reported s es over m xs ends at.here (w ∙ h.watching)) (left_reported s es over m ends at.here) h.files.retried
+    (g ∙ ap (λ (ys : List Finding). ks ++ ys) r ∙ ap (λ (ys : List Finding). ys ++ retried) (e ∙ ap (λ (ys : List Finding). (ys ++ flat_map (of_lasting over m) xs) ++ all_at_end s (length es) over m) judged_now))
   where
     ends : EndsOver s es over
     ends = subst (λ (x : Machine). SaysOver over x) at.here says

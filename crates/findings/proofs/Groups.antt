@@ -1,6 +1,6 @@
 -- The findings of those kinds of a group that pass a test.
-use Rattle.findings.proofs.Common.{◌≡◌, ℕ, ◌+◌, ◌<◌, Bool, true, false, List, [], ◌∷◌, ◌++◌, length, take, get_or, refl, All, Finding, Kind, EndedKind, Failed, Short, Severed, Canceled, TimedOut, Expired, NotFound, TooLate, WentOn, Fault, Note, ConflictKind, BufferInUse, Unordered, SharedPosition, FsyncEarly, StepKind, Busy, TakenShort, NoSuchSlot, SlotInUse, ClosedEarly, ClosedWhileHeld, RefusedFlags, ClosedTwice, QueuedKind, CutOff, NoEffect, SameUserData, CancelKind, NoneFound, Several, LeftRunning, ended_kinds, conflict_kinds, step_kinds, queued_kinds, cancel_kinds, inl, inr, sym, ap, ◌∙◌, take_at_read, flat_map_more, All-nil, All-cons, All-append, given, of_group}
-use Rattle.findings.proofs.Members.{Has, has_flat_map}
+use Rattle.findings.proofs.Common.{◌≡◌, ℕ, suc, ◌+◌, ◌<◌, ◌≤◌, Bool, true, false, List, [], ◌∷◌, ◌++◌, length, take, get_or, flat_map, refl, All, Finding, Kind, EndedKind, Failed, Short, Severed, Canceled, TimedOut, Expired, NotFound, TooLate, WentOn, Fault, Note, ConflictKind, BufferInUse, Unordered, SharedPosition, FsyncEarly, StepKind, Busy, TakenShort, NoSuchSlot, SlotInUse, ClosedEarly, ClosedWhileHeld, RefusedFlags, ClosedTwice, QueuedKind, CutOff, NoEffect, SameUserData, CancelKind, NoneFound, Several, LeftRunning, ended_kinds, conflict_kinds, step_kinds, queued_kinds, cancel_kinds, inl, inr, sym, ap, ◌∙◌, take_all, take_at_read, flat_map_more, All-nil, All-cons, All-append, arith, given, of_group, numbers_below}
+use Rattle.finding_rules.proofs.Members.{Has, has_flat_map}
 
 abbrev pub the_finding : ℕ → Kind → ℕ → Finding
 the_finding i kind n = record { moment = i; kind = kind; subject = n }
@@ -23,15 +23,34 @@ group_only P whole test i n (kind ∷ kinds) h =
 pub group_there : {K : Type 0} (whole : K → Kind) (test : K → Bool) (i n : ℕ) (kinds : List K) (kind : K) → Has kinds kind → test kind ≡ true → Has (of_group whole test i n kinds) (the_finding i (whole kind) n)
 group_there whole test i n kinds kind h t = has_flat_map (λ k. given (test k) (the_finding i (whole k) n)) kinds kind (the_finding i (whole kind) n) h (given_there (test kind) (the_finding i (whole kind) n) t)
 
+-- ---- one step of a loop
+
+-- The findings about one more element of a list.
+pub each_more : {X : Type 0} (f : X → List Finding) (xs : List X) (k : ℕ) (d : X) (start found now : List Finding) → k < length xs → found ≡ start ++ flat_map f (take k xs) → now ≡ found ++ f (get_or xs k d) → now ≡ start ++ flat_map f (take (k + 1) xs)
+each_more {X = X} f xs k d start found now l h g =
+    g
+    ∙ ap (λ (fs : List Finding). fs ++ f (get_or xs k d)) h
+    ∙ flat_map_more f start (take k xs) (get_or xs k d)
+    ∙ ap (λ (ys : List X). start ++ flat_map f ys) (sym (take_at_read xs k d l).1)
+
+-- After the last element.
+pub each_whole : {X : Type 0} (f : X → List Finding) (xs : List X) (k : ℕ) (start found : List Finding) → length xs ≤ k → found ≡ start ++ flat_map f (take k xs) → found ≡ start ++ flat_map f xs
+each_whole {X = X} f xs k start found l h = h ∙ ap (λ (ys : List X). start ++ flat_map f ys) (take_all k xs l)
+
+-- The findings about one more number.
+pub number_more : (f : ℕ → List Finding) (k : ℕ) (start found now : List Finding) → found ≡ start ++ flat_map f (numbers_below k) → now ≡ found ++ f k → now ≡ start ++ flat_map f (numbers_below (k + 1))
+number_more f k start found now h g =
+    let up : suc k ≡ k + 1 = omega arith in
+    g
+    ∙ ap (λ (fs : List Finding). fs ++ f k) h
+    ∙ flat_map_more f start (numbers_below k) k
+    ∙ ap (λ (n : ℕ). start ++ flat_map f (numbers_below n)) up
+
 -- The findings of one more kind of a list.
 pub group_more : {K : Type 0} (whole : K → Kind) (test : K → Bool) (i n : ℕ) (kinds : List K) (k : ℕ) (d : K) (b : Bool) (start found now : List Finding) → k < length kinds → b ≡ test (get_or kinds k d)
     → found ≡ start ++ of_group whole test i n (take k kinds) → now ≡ found ++ given b (the_finding i (whole (get_or kinds k d)) n) → now ≡ start ++ of_group whole test i n (take (k + 1) kinds)
 group_more {K = K} whole test i n kinds k d b start found now l t h g =
-    g
-    ∙ ap (λ (xs : List Finding). xs ++ given b (the_finding i (whole (get_or kinds k d)) n)) h
-    ∙ ap (λ (c : Bool). (start ++ of_group whole test i n (take k kinds)) ++ given c (the_finding i (whole (get_or kinds k d)) n)) t
-    ∙ flat_map_more (λ (kind : K). given (test kind) (the_finding i (whole kind) n)) start (take k kinds) (get_or kinds k d)
-    ∙ ap (λ (ks : List K). start ++ of_group whole test i n ks) (sym (take_at_read kinds k d l).1)
+    each_more (λ (kind : K). given (test kind) (the_finding i (whole kind) n)) kinds k d start found now l h (g ∙ ap (λ (c : Bool). found ++ given c (the_finding i (whole (get_or kinds k d)) n)) t)
 
 -- ---- each list has all kinds of its group
 

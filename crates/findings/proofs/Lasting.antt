@@ -1,7 +1,10 @@
 -- Conditions that last, and the moment since when each holds.
 use Rattle.findings.proofs.Common.{◌≡◌, ℕ, zero, suc, ◌+◌, ◌-◌, ◌<◌, ◌≤◌, Bool, true, false, List, [], ◌∷◌, ◌++◌, length, take, drop, get_or, set, map, refl, Option, Some, None, All, flat_map, Event, Setup, Machine, start, machine_at, Kind, Lasting, LastingKind, Condition, LostWakeUp, NotTaken, NotReaped, Stuck, Next, Watch, inl, inr, sym, ap, ◌∙◌, subst, arith, take-append_seam, length-map, cases_lt, cases_order, and_parts, ltb-true, eqb-true, All-nil, All-cons, All-append, All-contains, Contains-get_or, clash, reported_as, condition_holds, Began, EndsOver, condition_holds_at, LastsSince, Lasts, IsLasting, since_of, watch_at, next_of, moved_by, next_after, AreNext, continued, advanced, fresh, numbers_below, of_threads, watched, of_kind, of_watch, of_lasting}
-use Rattle.findings.specs.declared.conditions.Condition.TheVariants.{Waits}
-use Rattle.findings.proofs.{Groups.the_finding, Members.Has, Members.has_contains, Members.has_flat_map, Members.has_left, Members.has_right}
+use Rattle.std.proofs.lemmas.List.{append_assoc, map-append}
+use Rattle.finding_rules.specs.declared.conditions.Condition.TheVariants.{Waits}
+use Rattle.findings.proofs.Groups.{the_finding}
+use Rattle.finding_rules.proofs.Members.{Has, has_contains, has_flat_map, has_left, has_right}
+pub use Rattle.finding_rules.proofs.Between.{below_there}
 
 -- ---- since when a condition holds
 
@@ -122,6 +125,16 @@ mapped_step f xs ys i d r l h e =
     let read : r ≡ f (get_or xs i d) = e ∙ ap (λ zs. f (get_or zs i d)) h ∙ ap f (mapped_read f xs i d l) in
     ap (λ zs. set zs i r) h ∙ ap (λ z. set (map f (take i xs) ++ drop i xs) i z) read ∙ mapped_more f xs i d l ∙ ap (λ (k : ℕ). map f (take k xs) ++ drop k xs) up
 
+-- A condition of one more thread.
+pub fresh_more : (c : Condition) (k : ℕ) (start list now : List Watch) → list ≡ start ++ map (fresh c) (numbers_below k) → now ≡ list ++ fresh c k ∷ [] → now ≡ start ++ map (fresh c) (numbers_below (k + 1))
+fresh_more c k start list now h g =
+    let up : suc k ≡ k + 1 = omega arith in
+    g
+    ∙ ap (λ (ws : List Watch). ws ++ fresh c k ∷ []) h
+    ∙ append_assoc start (map (fresh c) (numbers_below k)) (fresh c k ∷ [])
+    ∙ ap (λ (ws : List Watch). start ++ ws) (sym (map-append (fresh c) (numbers_below k) (k ∷ [])))
+    ∙ ap (λ (n : ℕ). start ++ map (fresh c) (numbers_below n)) up
+
 -- What the thread of an element that isn't updated does next.
 pub mapped_right : (s : Setup) (e : Event) (m : Machine) (moment : ℕ) (xs ys : List Watch) (i : ℕ) (d : Watch) (moved : Option (ℕ × Next)) → i < length xs → ys ≡ map (advanced s m moment) (take i xs) ++ drop i xs → moved ≡ moved_by s e m → AreNext s e m xs
     → next_after moved (get_or ys i d) ≡ next_of s m (get_or ys i d).subject
@@ -146,38 +159,33 @@ one_end s es false false h k = refl
 
 -- Only conditions that last are reported.
 module _ (s : Setup) (es : List Event) (over : Bool) (ends : EndsOver s es over) where
-  kind_lasts : (c : Condition) (n i : ℕ) → Began (condition_holds_at s es c n) (length es) i → All (Lasts s es) (of_kind n i (reported_as c over))
-  kind_lasts c n i b = by (reported_as c over) refl
+  abbrev last_machine : Machine
+  last_machine = machine_at s es (length es)
+
+  kind_lasts : (c : Condition) (n i : ℕ) → Began (condition_holds_at s es c n) (length es) i → All (Lasts s es) (of_kind n i (reported_as c over last_machine))
+  kind_lasts c n i b = by (reported_as c over last_machine) refl
     where
-      by : (o : Option LastingKind) → reported_as c over ≡ o → All (Lasts s es) (of_kind n i o)
+      by : (o : Option LastingKind) → reported_as c over last_machine ≡ o → All (Lasts s es) (of_kind n i o)
       by None e = All-nil (Lasts s es)
       by (Some kind) e =
           All-cons (Lasts s es) (the_finding i (Lasting kind) n) [] (record { over = over; ends = ends; condition = c; reported = e; began = b }) (All-nil (Lasts s es))
 
-  watch_lasts : (w : Watch) → All (Lasts s es) (of_lasting over (watch_at s es (length es) w))
+  watch_lasts : (w : Watch) → All (Lasts s es) (of_lasting over last_machine (watch_at s es (length es) w))
   watch_lasts w = by (since_of (condition_holds_at s es w.condition w.subject) (length es)) refl
     where
-      by : (o : Option ℕ) → since_of (condition_holds_at s es w.condition w.subject) (length es) ≡ o → All (Lasts s es) (of_watch over w.condition w.subject o)
+      by : (o : Option ℕ) → since_of (condition_holds_at s es w.condition w.subject) (length es) ≡ o → All (Lasts s es) (of_watch over last_machine w.condition w.subject o)
       by None e = All-nil (Lasts s es)
       by (Some i) e = kind_lasts w.condition w.subject i (since_begins (condition_holds_at s es w.condition w.subject) (length es) i e)
 
-  watches_last : (ws : List Watch) → All (Lasts s es) (flat_map (of_lasting over) (map (watch_at s es (length es)) ws))
+  watches_last : (ws : List Watch) → All (Lasts s es) (flat_map (of_lasting over last_machine) (map (watch_at s es (length es)) ws))
   watches_last [] = All-nil (Lasts s es)
   watches_last (w ∷ ws) =
-      All-append (Lasts s es) (of_lasting over (watch_at s es (length es) w)) (flat_map (of_lasting over) (map (watch_at s es (length es)) ws)) (watch_lasts w) (watches_last ws)
+      All-append (Lasts s es) (of_lasting over last_machine (watch_at s es (length es) w)) (flat_map (of_lasting over last_machine) (map (watch_at s es (length es)) ws)) (watch_lasts w) (watches_last ws)
 
 pub has_map : {X Y : Type 0} (f : X → Y) (xs : List X) (x : X) → Has xs x → Has (map f xs) (f x)
 has_map f [] x h = absurd h
 has_map f (y ∷ ys) x (inl e) = inl (ap f e)
 has_map f (y ∷ ys) x (inr h) = inr (has_map f ys x h)
-
-pub below_there : (n m : ℕ) → n < m → Has (numbers_below m) n
-below_there n zero l = absurd (omega arith)
-below_there n (suc m) l =
-    elim (cases_lt n m) [
-      | inl below ↦ has_left (numbers_below m) (m ∷ []) n (below_there n m below)
-      | inr up ↦ let same : m ≡ n = omega arith in has_right (numbers_below m) (m ∷ []) n (inl same)
-    ]
 
 -- Each condition that can hold is watched.
 watched_has : (s : Setup) (c : Condition) (m : Machine) (n : ℕ) → condition_holds s c m n ≡ true → Has (watched s) (fresh c n)
@@ -193,27 +201,30 @@ watched_has s Stuck m n h =
 
 -- Each condition that lasts and has a kind is reported.
 module _ (s : Setup) (es : List Event) (over : Bool) where
-  watch_reported : (i : ℕ) (c : Condition) (kind : LastingKind) (n : ℕ) → reported_as c over ≡ Some kind → Began (condition_holds_at s es c n) (length es) i
-      → Has (flat_map (of_lasting over) (map (watch_at s es (length es)) (watched s))) (the_finding i (Lasting kind) n)
+  abbrev end_machine : Machine
+  end_machine = machine_at s es (length es)
+
+  watch_reported : (i : ℕ) (c : Condition) (kind : LastingKind) (n : ℕ) → reported_as c over end_machine ≡ Some kind → Began (condition_holds_at s es c n) (length es) i
+      → Has (flat_map (of_lasting over end_machine) (map (watch_at s es (length es)) (watched s))) (the_finding i (Lasting kind) n)
   watch_reported i c kind n r h =
       let holds_now : condition_holds s c (machine_at s es (length es)) n ≡ true = h.lasts (length es) h.within (omega arith) in
       let there = has_map (watch_at s es (length es)) (watched s) (fresh c n) (watched_has s c (machine_at s es (length es)) n holds_now) in
       let since : since_of (condition_holds_at s es c n) (length es) ≡ Some i = begins_since (condition_holds_at s es c n) (length es) i h in
-      let one : Has (of_kind n i (reported_as c over)) (the_finding i (Lasting kind) n) =
+      let one : Has (of_kind n i (reported_as c over end_machine)) (the_finding i (Lasting kind) n) =
       subst (λ (o : Option LastingKind). Has (of_kind n i o) (the_finding i (Lasting kind) n)) (sym r) (inl refl)
       in
-      let reported : Has (of_lasting over (watch_at s es (length es) (fresh c n))) (the_finding i (Lasting kind) n) =
-      subst (λ (o : Option ℕ). Has (of_watch over c n o) (the_finding i (Lasting kind) n)) (sym since) one
+      let reported : Has (of_lasting over end_machine (watch_at s es (length es) (fresh c n))) (the_finding i (Lasting kind) n) =
+      subst (λ (o : Option ℕ). Has (of_watch over end_machine c n o) (the_finding i (Lasting kind) n)) (sym since) one
       in
-      has_flat_map (of_lasting over) (map (watch_at s es (length es)) (watched s)) (watch_at s es (length es) (fresh c n)) (the_finding i (Lasting kind) n) there reported
+      has_flat_map (of_lasting over end_machine) (map (watch_at s es (length es)) (watched s)) (watch_at s es (length es) (fresh c n)) (the_finding i (Lasting kind) n) there reported
 
-  lasts_reported : EndsOver s es over → (i : ℕ) (kind : Kind) (n : ℕ) → LastsSince s es i kind n → Has (flat_map (of_lasting over) (map (watch_at s es (length es)) (watched s))) (the_finding i kind n)
-  lasts_reported ends i (Lasting kind) n h = watch_reported i h.condition kind n (ap (reported_as h.condition) (one_end s es over h.over ends h.ends) ∙ h.reported) h.began
+  lasts_reported : EndsOver s es over → (i : ℕ) (kind : Kind) (n : ℕ) → LastsSince s es i kind n → Has (flat_map (of_lasting over end_machine) (map (watch_at s es (length es)) (watched s))) (the_finding i kind n)
+  lasts_reported ends i (Lasting kind) n h = watch_reported i h.condition kind n (ap (λ (b : Bool). reported_as h.condition b end_machine) (one_end s es over h.over ends h.ends) ∙ h.reported) h.began
   lasts_reported ends i _ n h = absurd h
 
 -- The findings of the watched conditions are those that last to the end.
-pub lasting_reported : (s : Setup) (es : List Event) (over : Bool) (ws : List Watch) → EndsOver s es over → ws ≡ map (watch_at s es (length es)) (watched s) → IsLasting s es (flat_map (of_lasting over) ws)
-lasting_reported s es over ws ends e = subst (λ (xs : List Watch). IsLasting s es (flat_map (of_lasting over) xs)) (sym e) (record {
+pub lasting_reported : (s : Setup) (es : List Event) (over : Bool) (m : Machine) (ws : List Watch) → EndsOver s es over → m ≡ machine_at s es (length es) → ws ≡ map (watch_at s es (length es)) (watched s) → IsLasting s es (flat_map (of_lasting over m) ws)
+lasting_reported s es over m ws ends h e = subst (λ (x : Machine). IsLasting s es (flat_map (of_lasting over x) ws)) (sym h) (subst (λ (xs : List Watch). IsLasting s es (flat_map (of_lasting over (machine_at s es (length es))) xs)) (sym e) (record {
   only = watches_last s es over ends (watched s);
   whole = λ f h. has_contains _ f (lasts_reported s es over ends f.moment f.kind f.subject h);
-})
+}))

@@ -1,7 +1,8 @@
 -- Requests that are incomplete at the end, and files that aren't durable.
 use Rattle.findings.proofs.Common.{◌≡◌, ℕ, zero, suc, ◌+◌, ◌<◌, ◌≤◌, Bool, true, false, List, [], ◌∷◌, ◌++◌, length, drop, refl, Option, Some, None, slice_get, nat_lt, ◌&&◌, option_map_or, All, flat_map, enumerate_from, Row, is_open, Event, Setup, Machine, machine_at, Finding, Kind, Left, LeftKind, Unfinished, NotDurable, Verdict, Fault, Note, inl, inr, sym, ap, ◌∙◌, subst, arith, append-nil, drop_all, All-nil, All-append, and_parts, and_from, lt-ltb, ltb-true, flat_map-append, fault_if, has_fsync, is_left, is_verdict, has_unsynced, EndsOver, IsLeftAt, IsLeft, of_left, all_left, of_object, all_unsynced, all_at_end, AreLeft, numbers_below}
 use Rattle.std.proofs.Common.{append_assoc}
-use Rattle.findings.proofs.{Groups.given_only, Groups.given_there, Groups.the_finding, Lasting.below_there, Lasting.one_end, Members.Has, Members.has_contains, Members.has_flat_map, Members.has_left, Members.has_right}
+use Rattle.findings.proofs.{Groups.given_only, Groups.given_there, Groups.the_finding, Lasting.one_end}
+use Rattle.finding_rules.proofs.{Between.below_there, Members.Has, Members.has_contains, Members.has_flat_map, Members.has_left, Members.has_right}
 
 -- The first of the remaining requests.
 row_first : (rows rest : List Row) (k : ℕ) (row : Row) → drop k rows ≡ row ∷ rest → (slice_get rows k ≡ Some row) × (drop (suc k) rows ≡ rest)

@@ -1,5 +1,7 @@
 -- Sets of bytes, one for each object, that a search marks.
 use Rattle.findings.proofs.Common.{◌≡◌, ℕ, zero, suc, ◌+◌, ◌-◌, ◌<◌, ◌≤◌, Bool, true, false, cond, not, List, [], ◌∷◌, ◌++◌, length, get_or, set, refl, MatchBool, Option, Some, None, slice_get, nat_lt, nat_le, ◌==◌, ◌&&◌, ◌||◌, option_map_or, has, IsNext, NoneFrom, FileByte, DurableByte, Machine, view, byte_in, differ, Fsync, Written, inl, inr, length-append, sym, ap, ◌∙◌, subst, arith, cases_eq, cases_lt, and_left, and_right, and_from, and_parts, lt-ltb, ltb-true, leb-true, le-leb, eq-eqb, ne_eqb, nat_tests, slice_get_read, slice_get_past, has_past, clash, is_within, moves, is_marked, is_fsync_of, SaysMarked}
+use Rattle.finding_rules.proofs.Between.{marked_none}
+pub use Rattle.finding_rules.proofs.Between.{marked_in}
 
 or_false : (a b : Bool) → b ≡ false → a ≡ (a || b)
 or_false true b e = refl
@@ -9,9 +11,6 @@ or_false false b e = sym e
 
 pub marked_past : (sets : List (List ℕ)) (o k : ℕ) → length sets ≤ o → is_marked sets o k ≡ false
 marked_past sets o k l = ap (λ (x : Option (List ℕ)). option_map_or (λ (words : List ℕ). has words k) x false) (slice_get_past sets o l)
-
-pub marked_in : (sets : List (List ℕ)) (o k : ℕ) (words : List ℕ) → slice_get sets o ≡ Some words → is_marked sets o k ≡ has words k
-marked_in sets o k words e = ap (λ (x : Option (List ℕ)). option_map_or (λ (ws : List ℕ). has ws k) x false) e
 
 pub marked_read : (sets : List (List ℕ)) (o k : ℕ) (words : List ℕ) → o < length sets → words ≡ get_or sets o words → is_marked sets o k ≡ has words k
 marked_read sets o k words l e = marked_in sets o k words (slice_get_read sets (length sets) o words refl l e)
@@ -65,7 +64,7 @@ says_of_set true sets o words e h = (h.0, marked_in sets o h.0 words e ∙ h.1)
 says_of_set false sets o words e h = λ k. marked_in sets o k words e ∙ h k
 
 pub says_of_none : (sets : List (List ℕ)) (o : ℕ) → slice_get sets o ≡ None → SaysMarked false sets o
-says_of_none sets o e = λ k. ap (λ (x : Option (List ℕ)). option_map_or (λ (words : List ℕ). has words k) x false) e
+says_of_none sets o e = λ k. marked_none sets o k e
 
 -- ---- changes of one set
 

@@ -1,6 +1,7 @@
 -- The circumstances that the search notes for a completed request are those of the event.
 use Rattle.findings.proofs.Common.{or_parts, ◌≡◌, ◌⊎◌, ℕ, ◌+◌, ◌<◌, ◌≤◌, Bool, true, false, cond, List, [], ◌∷◌, ◌++◌, refl, ℤ, Option, Some, None, Result, Ok, Err, OnOk, option_map, slice_get, nat_lt, ◌==◌, ◌&&◌, ◌||◌, not, option_map_or, list_any, flat_map, enumerate_from, Row, Place, Request, Value, Change, Exact, NamesOnce, is_guard, Chained, Event, Setup, Machine, view, is_transfer, Finding, Kind, Ended, EndedKind, Short, Severed, Canceled, TimedOut, ended_kinds, Completed, Before, Member, inl, inr, sym, ap, ◌∙◌, subst, arith, and_parts, and_from, and_left, and_right, or_cases, false_from_ne_true, true_from_ne_false, cases_lt, ltb-true, eqb-true, eq-eqb, list_any-append, enumerated, numbered, any_true, any_false, clash, not-true, slice_get_none, Circumstances, ending_of, ended_test, is_error, is_less, is_of, is_verdict, next_in, severs, given, is_short_of_end, is_severing, cancels, is_later, member_of, any_passes, severs_others, is_severed, is_expiry_of, expires_over, expires_over_ready, has_canceled_target, circumstances, row_in, of_group, of_queued, of_place, of_change, of_row, member_if, members_at, members_of, continues, severs_chain, cancels_at, severing_in, canceled_in, depends_on_others, IsListed, is_severed_in, noted, noted_by, facts_before}
-use Rattle.findings.proofs.{Draining.none_past, Groups.the_finding, Members.Has, Members.any_alike, Members.any_has, Members.has_flat_map, Notes.AreTrue, Notes.true_notes, Shown.NeedsChange, Shown.not_completed, Shown.passes_named, Shown.row_in_requested}
+use Rattle.findings.proofs.{Groups.the_finding, Notes.AreTrue, Notes.true_notes, Shown.NeedsChange, Shown.not_completed, Shown.passes_named, Shown.row_in_requested}
+use Rattle.finding_rules.proofs.{Draining.none_past, Members.Has, Members.any_alike, Members.any_has, Members.has_flat_map}
 
 -- ---- the requests that an event completes
 

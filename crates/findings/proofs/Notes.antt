@@ -1,6 +1,6 @@
 -- The changes of an exact record.
 use Rattle.findings.proofs.Common.{◌≡◌, Bool, true, false, cond, List, [], ◌∷◌, refl, Option, Some, None, Place, Value, Change, same_place, View, Exact, NamesOnce, inl, inr, sym, ap, ◌∙◌, none-some, same_Some, same_place_is, same_place_self, named}
-use Rattle.findings.proofs.Members.{Has}
+use Rattle.finding_rules.proofs.Members.{Has}
 
 -- Each change has the old value of its place.
 abbrev pub AreTrue : View → List Change → Type 0

@@ -1,6 +1,7 @@
 -- The timespecs that an event overwrites are found among the pushed indexes.
-use Rattle.findings.proofs.Common.{◌≡◌, ℕ, ◌+◌, ◌≤◌, Bool, true, false, List, [], ◌∷◌, ◌++◌, length, take, drop, get_or, refl, Some, slice_get, ◌==◌, ◌||◌, ◌&&◌, All, flat_map, list_any, Sqe, Machine, Finding, TimespecInUse, Effect, Nothing, Named, inl, inr, sym, ap, ◌∙◌, and_parts, and_from, eqb-true, eq-eqb, take_at_read, flat_map_more, take_all, All-nil, All-append, slice_get_within, get_or_from_slice_get, given, written_by, is_over_slot, overwrites, of_index, of_timespecs, is_sought, is_pushed_last, pushed_last}
-use Rattle.findings.proofs.{Groups.given_only, Groups.given_there, Groups.the_finding, Members.Has, Members.has_flat_map, Waiting.drop_get}
+use Rattle.findings.proofs.Common.{◌≡◌, ℕ, ◌+◌, ◌≤◌, Bool, true, false, List, [], ◌∷◌, ◌++◌, length, take, drop, get_or, refl, Some, slice_get, ◌==◌, ◌||◌, ◌&&◌, All, flat_map, list_any, Sqe, Machine, Finding, TimespecInUse, Effect, Nothing, Named, inl, inr, sym, ap, ◌∙◌, and_parts, and_from, eqb-true, eq-eqb, take_at_read, flat_map_more, All-nil, All-append, slice_get_within, get_or_from_slice_get, given, written_by, is_over_slot, overwrites, of_index, of_timespecs, is_sought, is_pushed_last, pushed_last}
+use Rattle.findings.proofs.Groups.{each_whole, given_only, given_there, the_finding}
+use Rattle.finding_rules.proofs.{Members.Has, Members.has_flat_map, Waiting.drop_get}
 
 -- ---- one pushed index after the other
 
@@ -23,7 +24,7 @@ indexes_more i slots range words passed k slot b start found now there t h g =
 
 -- After the last index.
 pub indexes_all : (i : ℕ) (slots : List Sqe) (range : ℕ × ℕ) (rest : List ℕ) (k : ℕ) (start found : List Finding) → length rest ≤ k → found ≡ start ++ flat_map (of_index i slots range) (take k rest) → found ≡ start ++ flat_map (of_index i slots range) rest
-indexes_all i slots range rest k start found l h = h ∙ ap (λ (xs : List ℕ). start ++ flat_map (of_index i slots range) xs) (take_all k rest l)
+indexes_all i slots range rest k start found l h = each_whole (of_index i slots range) rest k start found l h
 
 -- ---- nothing else
 

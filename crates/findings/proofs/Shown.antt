@@ -1,8 +1,9 @@
 -- The findings computed from the record of an event are those of the event.
 use Rattle.findings.proofs.Common.{◌≡◌, ℕ, zero, Bool, true, false, cond, List, [], ◌∷◌, ◌++◌, refl, Option, Some, None, option_map, slice_get, ℤ, ◌==◌, ◌&&◌, not, option_map_or, All, flat_map, Phase, Row, Place, Request, Value, Requested, Change, Exact, NamesOnce, is_ended, Event, Step, Instruction, Setup, Machine, view, Finding, Kind, EndedKind, StepKind, QueuedKind, CancelKind, ended_kinds, step_kinds, queued_kinds, cancel_kinds, sym, ap, ◌∙◌, subst, All-nil, All-append, and_parts, and_from, eqb-true, eq-eqb, clash, Circumstances, ending_of, result_in, next_in, is_of, ended_test, queued_test, circumstances, overflows, done_by, is_step_of, is_of_step, changes_slot, changes_at, cancel_before, is_of_cancel, cancel_shows, ends, comes, spills, step_shows, occurs, of_ended, of_queued, of_row, row_in, of_place, of_change, of_overflow, of_instruction, of_step, of_cancel, of_event}
-use Rattle.entries.specs.declared.row.Phase.TheVariants.{Ended, Queued}
-use Rattle.findings.specs.declared.canceling.Cancel.{Cancel}
-use Rattle.findings.proofs.{Groups.given_only, Groups.given_there, Groups.group_only, Groups.group_there, Groups.is_cancel_kind, Groups.is_ended_kind, Groups.is_queued_kind, Groups.is_step_kind, Groups.the_finding, Members.Has, Members.has_flat_map, Members.has_left, Members.has_right, Notes.AreTrue, Notes.change_there, Notes.is_named, Notes.true_notes}
+use Rattle.entries.specs.declared.row.Phase.TheVariants.{Ended}
+use Rattle.finding_rules.specs.declared.canceling.Cancel.{Cancel}
+use Rattle.findings.proofs.{Groups.given_only, Groups.given_there, Groups.group_only, Groups.group_there, Groups.is_cancel_kind, Groups.is_ended_kind, Groups.is_queued_kind, Groups.is_step_kind, Groups.the_finding, Notes.AreTrue, Notes.change_there, Notes.is_named, Notes.true_notes}
+use Rattle.finding_rules.proofs.Members.{Has, has_flat_map, has_left, has_right}
 use Rattle.finding_kinds.specs.declared.kind.Kind.TheVariants as group
 
 -- A finding of event i, which leads from one machine to another.

@@ -1,6 +1,7 @@
 -- WRITEs and FSYNCs that a search has followed, after one more event.
 use Rattle.findings.proofs.Common.{◌≡◌, ◌⊎◌, ℕ, ℤ, zero, suc, ◌+◌, ◌-◌, ◌<◌, Bool, true, false, cond, not, List, [], ◌∷◌, ◌++◌, length, refl, MatchBool, Option, Some, None, option_map, slice_get, nat_lt, ◌==◌, ◌&&◌, ◌||◌, option_map_or, option_and_then, option_to_list, All, Contains, Row, Contents, File, Descriptor, Object, Event, Setup, Machine, machine_at, number_in, Finding, Kind, FsyncRetried, Fsync, Written, Effect, Nothing, Finished, inl, inr, sym, ap, ◌∙◌, subst, arith, append-nil, cases_lt, and_from, and_parts, eqb-true, eq-eqb, MatchBool-at_true, MatchBool-at_false, flat_map-append, All-nil, All-cons, All-append, All-weaker, Contains-append_left, Contains-append_right, none-some, same_Some, slice_get_within, slice_get_past, clash, file_number, file_of_descriptor, file_numbered, file_of, begins, moved, is_volatile_at, completed_by, completed_at, written_of, written_at, written_before, moves, has_ended_with, fsync_of, fsync_at, failed, good, IsSuspect, IsRetried, IsRetriedAt, Retries, given, RetriedBefore, is_marked, is_fsync_of, SaysMarked, AddsRetried, Follows, FollowsFiles, numbers_below}
-use Rattle.findings.proofs.{Groups.the_finding, Marks.marked_past, Marks.marks_both, Marks.marks_kept, Marks.marks_same, Members.has_contains}
+use Rattle.findings.proofs.{Groups.the_finding, Marks.marked_past, Marks.marks_both, Marks.marks_kept, Marks.marks_same}
+use Rattle.finding_rules.proofs.Members.{has_contains}
 
 -- ---- files are objects of the setup
 

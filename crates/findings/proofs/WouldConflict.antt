@@ -1,6 +1,7 @@
 -- The conflicts found for some numbers are those of the event.
 use Rattle.findings.proofs.Common.{◌≡◌, ℕ, Bool, true, false, List, [], ◌∷◌, refl, Option, Some, None, slice_get, option_map_or, All, flat_map, Row, Setup, Machine, Effect, Nothing, Finding, Conflict, TimespecInUse, ConflictKind, conflict_kinds, sym, ap, ◌∙◌, subst, All-nil, All-append, and_parts, clash, is_candidate, is_conflict, conflicts, overwrites, of_timespecs, of_candidate, of_number, of_conflicts, of_effect, Covers}
-use Rattle.findings.proofs.{Groups.group_only, Groups.group_there, Groups.is_conflict_kind, Groups.the_finding, Members.Has, Members.contains_has, Members.has_flat_map, Members.has_left, Members.has_right, OverwrittenTimes.timespecs_only, OverwrittenTimes.timespecs_there}
+use Rattle.findings.proofs.{Groups.group_only, Groups.group_there, Groups.is_conflict_kind, Groups.the_finding, OverwrittenTimes.timespecs_only, OverwrittenTimes.timespecs_there}
+use Rattle.finding_rules.proofs.Members.{Has, contains_has, has_flat_map, has_left, has_right}
 
 -- Whether the effect of an event is a finding about request q.
 abbrev pub is_done : Setup → Machine → Effect → ConflictKind → ℕ → Bool

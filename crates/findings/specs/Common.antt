@@ -13,4 +13,5 @@ pub use Rattle.machine.specs.{Cancels.key_of, Cancels.takes_all, Runs.Accepts, R
 pub use Rattle.quiescence.specs.Over.{SaysOver}
 pub use Rattle.runs.specs.{Moments.IsAt, declared.driving.Ended.TheVariants.Memory, declared.driving.Ended.TheVariants.Refused, declared.driving.Ended.TheVariants.Stopped}
 pub use Rattle.finding_kinds.specs.{Chains.distance_to_next, Orders.order_of, Programs.instruction_at, Values.byte_in, Values.differ, declared.finding.Finding.Finding, declared.kind.CancelKind.CancelKind, declared.kind.CancelKind.TheVariants.LeftRunning, declared.kind.CancelKind.TheVariants.NoneFound, declared.kind.CancelKind.TheVariants.Several, declared.kind.ConflictKind.ConflictKind, declared.kind.ConflictKind.TheVariants.BufferInUse, declared.kind.ConflictKind.TheVariants.FsyncEarly, declared.kind.ConflictKind.TheVariants.SharedPosition, declared.kind.ConflictKind.TheVariants.Unordered, declared.kind.EndedKind.EndedKind, declared.kind.EndedKind.TheVariants.Canceled, declared.kind.EndedKind.TheVariants.Expired, declared.kind.EndedKind.TheVariants.Failed, declared.kind.EndedKind.TheVariants.NotFound, declared.kind.EndedKind.TheVariants.Severed, declared.kind.EndedKind.TheVariants.Short, declared.kind.EndedKind.TheVariants.TimedOut, declared.kind.EndedKind.TheVariants.TooLate, declared.kind.EndedKind.TheVariants.WentOn, declared.kind.Kind.Kind, declared.kind.Kind.TheVariants.Conflict, declared.kind.Kind.TheVariants.FsyncRetried, declared.kind.Kind.TheVariants.Lasting, declared.kind.Kind.TheVariants.Left, declared.kind.Kind.TheVariants.Overflow, declared.kind.Kind.TheVariants.Queued, declared.kind.Kind.TheVariants.TimespecInUse, declared.kind.LastingKind.LastingKind, declared.kind.LeftKind.LeftKind, declared.kind.LeftKind.TheVariants.NotDurable, declared.kind.LeftKind.TheVariants.Unfinished, declared.kind.QueuedKind.QueuedKind, declared.kind.QueuedKind.TheVariants.CutOff, declared.kind.QueuedKind.TheVariants.NoEffect, declared.kind.QueuedKind.TheVariants.SameUserData, declared.kind.StepKind.StepKind, declared.kind.StepKind.TheVariants.Busy, declared.kind.StepKind.TheVariants.ClosedEarly, declared.kind.StepKind.TheVariants.ClosedTwice, declared.kind.StepKind.TheVariants.ClosedWhileHeld, declared.kind.StepKind.TheVariants.NoSuchSlot, declared.kind.StepKind.TheVariants.RefusedFlags, declared.kind.StepKind.TheVariants.SlotInUse, declared.kind.StepKind.TheVariants.TakenShort, declared.kind.TheConstants.CancelKind.ALL as cancel_kinds, declared.kind.TheConstants.ConflictKind.ALL as conflict_kinds, declared.kind.TheConstants.EndedKind.ALL as ended_kinds, declared.kind.TheConstants.QueuedKind.ALL as queued_kinds, declared.kind.TheConstants.StepKind.ALL as step_kinds, declared.kind.Verdict.TheVariants.Fault, declared.kind.Verdict.TheVariants.Note, declared.kind.Verdict.Verdict}
-pub use Rattle.findings.specs.declared.{canceling.Cancel.Cancel, completed.Completed.Completed, completed.Member.Member, conditions.Before.Before, conditions.Condition.Condition, conditions.Condition.TheVariants.LostWakeUp, conditions.Condition.TheVariants.NotReaped, conditions.Condition.TheVariants.NotTaken, conditions.Condition.TheVariants.Stuck, conditions.Condition.TheVariants.Waits, conditions.Next.Next, effect.Effect.Effect, effect.Effect.TheVariants.Finished, effect.Effect.TheVariants.Nothing, effect.Effect.TheVariants.Stored, suspects.Durability.Durability, uses.Sought.Sought, uses.Sought.TheVariants.Named, uses.Sought.TheVariants.Naming, uses.Usage.TheVariants.Holds, uses.Usage.TheVariants.Names, uses.Usage.Usage, watching.Watch.Watch, writes.Fsync.Fsync, writes.Written.Written}
+pub use Rattle.finding_rules.specs.declared.{canceling.Cancel.Cancel, completed.Completed.Completed, completed.Member.Member, conditions.Before.Before, conditions.Condition.Condition, conditions.Condition.TheVariants.LostWakeUp, conditions.Condition.TheVariants.NotReaped, conditions.Condition.TheVariants.NotTaken, conditions.Condition.TheVariants.Stuck, conditions.Condition.TheVariants.Waits, conditions.Next.Next, effect.Effect.Effect, effect.Effect.TheVariants.Finished, effect.Effect.TheVariants.Nothing, effect.Effect.TheVariants.Stored, uses.Sought.Sought, uses.Sought.TheVariants.Named, uses.Sought.TheVariants.Naming, uses.Usage.TheVariants.Holds, uses.Usage.TheVariants.Names, uses.Usage.Usage, writes.Fsync.Fsync, writes.Written.Written}
+pub use Rattle.findings.specs.declared.{suspects.Durability.Durability, watching.Watch.Watch}

@@ -1,8 +1,9 @@
 -- The findings of a run, by the machines before and after each event.
 use Rattle.std.specs.Prelude.{◌≡◌, ℕ, ◌==◌, Bool, true, false, not, ◌&&◌, ◌⊎◌, Some, length, List, slice_get, All, Contains}
-use Rattle.findings.specs.Common.{option_map_or, IsStrictlySortedBy, Event, Setup, Machine, after, machine_at, SaysOver, Kind, Overflow, Lasting, Left, Conflict, Queued, TimespecInUse, FsyncRetried, FsyncEarly, EndedKind, LastingKind, LeftKind, QueuedKind, StepKind, Finding, order_of, Condition}
+use Rattle.findings.specs.Common.{option_map_or, IsStrictlySortedBy, Event, Setup, Machine, after, machine_at, SaysOver, Kind, Overflow, Lasting, Left, Conflict, Queued, TimespecInUse, FsyncRetried, EndedKind, LastingKind, LeftKind, QueuedKind, StepKind, Finding, order_of, Condition}
 use Rattle.finding_kinds.specs.declared.kind.Kind.TheVariants.{Cancel, Ended, Step}
-use Rattle.findings.specs.{AtEnd.fault_if, AtEnd.is_left, AtEnd.reported_as, Canceling.cancel_shows, Completions.circumstances, Conditions.Began, Conditions.condition_holds, Conditions.done_by, Conditions.is_of_step, Conditions.is_step_of, Conditions.overflows, Conflicts.clashes, Conflicts.done_at, Durability.IsRetried, Durability.has_byte_of, Durability.is_volatile_at, Durability.written_before, Endings.ended_test, Endings.queued_test, Timespecs.overwrites, Uses.changes_slot}
+use Rattle.finding_rules.specs.{AtEnd.is_left, AtEnd.reported_as, Canceling.cancel_shows, Completions.circumstances, Conditions.Began, Conditions.condition_holds, Conditions.done_by, Conditions.is_of_step, Conditions.is_step_of, Conditions.overflows, Conflicts.clashes, Conflicts.done_at, Durability.IsRetried, Durability.has_byte_of, Durability.is_volatile_at, Durability.written_before, Endings.ended_test, Endings.queued_test, Timespecs.overwrites, Uses.changes_slot}
+pub use Rattle.finding_rules.specs.Verdicts.{judged_kind}
 
 -- ---- order
 
@@ -63,7 +64,7 @@ pub record IsReported (s : Setup) (es : List Event) (i : ℕ) (kind : LastingKin
   pub over : Bool
   pub ends : EndsOver s es over
   pub condition : Condition
-  pub reported : reported_as condition over ≡ Some kind
+  pub reported : reported_as condition over (machine_at s es (length es)) ≡ Some kind
   pub began : Began (condition_holds_at s es condition n) (length es) i
 
 -- A request that is incomplete at the end, or a file that isn't durable then.
@@ -95,12 +96,6 @@ IsLeft s es f = IsLeftAt s es f.moment f.kind f.subject
 -- of the run.
 abbrev pub is_lost : Setup → List Event → ℕ → Bool
 is_lost s es q = has_byte_of (is_volatile_at (machine_at s es (length es))) (written_before s es (length es)) q
-
--- The kind of a finding about request q, once it is known which WRITEs are lost: an FSYNC that
--- completed too early is a fault if the WRITE is lost, else a note.
-abbrev pub judged_kind : (ℕ → Bool) → Kind → ℕ → Kind
-judged_kind lost (Conflict (FsyncEarly verdict)) q = Conflict (FsyncEarly (fault_if (lost q)))
-judged_kind lost kind q = kind
 
 -- An event is a finding of some kind, and this is its kind by the end of the run.
 abbrev pub Occurs : Setup → List Event → Finding → Type 0

@@ -1,19 +1,17 @@
 -- The findings of an event as the search computes them, from the undo record of the event.
-use Rattle.std.specs.Prelude.{◌≡◌, ℕ, ℤ, pos, negsuc, nat_le, ◌<◌, ◌==◌, Bool, true, false, not, ◌&&◌, ◌||◌, ◌++◌, if◌then◌else◌, Option, Some, None, List, [], ◌∷◌, length, slice_get, All, filter, flat_map, Contains}
-use Rattle.findings.specs.Common.{option_map_or, list_any, enumerate_from, is_open, is_bad, is_negative, is_transfer, Row, Place, Request, Change, Value, Requested, View, Exact, NamesOnce, Event, Step, Instruction, Put, Push, Store, Enter, Reap, Close, Setup, Machine, view, Kind, EndedKind, Unfinished, NotDurable, ConflictKind, StepKind, QueuedKind, CancelKind, ended_kinds, conflict_kinds, step_kinds, queued_kinds, cancel_kinds, Completed, Member, Before, Effect, Nothing, Finding, Cancel}
-use Rattle.findings.specs.{AtEnd.fault_if, AtEnd.has_fsync, Canceling.cancel_before, Canceling.is_of_cancel, Completions.cancels, Completions.circumstances, Completions.expires_over, Completions.has_canceled_target, Completions.is_expiry_of, Completions.is_later, Completions.is_severing, Completions.is_short_of_end, Completions.member_of, Conditions.answer_of, Conditions.done_by, Conditions.has_unsynced, Conditions.is_of_step, Conditions.overflows, Conflicts.conflicts, Conflicts.done_at, Conflicts.is_candidate, Endings.Circumstances, Endings.ended_test, Endings.ending_of, Endings.is_error, Endings.is_less, Endings.next_in, Endings.queued_test, Endings.severs, Findings.IsFinding, Findings.IsLeft, Findings.Lasts, Findings.Retries, Findings.judged_kind, Findings.occurs_at, Timespecs.of_timespecs, Uses.changes_at, Watched.numbers_below}
+use Rattle.std.specs.Prelude.{◌≡◌, ℕ, ◌<◌, ◌==◌, Bool, true, false, not, ◌&&◌, ◌++◌, if◌then◌else◌, Option, Some, None, List, [], ◌∷◌, length, slice_get, All, filter, flat_map, Contains}
+use Rattle.findings.specs.Common.{option_map_or, enumerate_from, is_open, Row, Place, Request, Change, Value, Requested, View, Exact, NamesOnce, Event, Step, Instruction, Setup, Machine, view, Kind, EndedKind, Unfinished, NotDurable, ConflictKind, StepKind, QueuedKind, CancelKind, ended_kinds, conflict_kinds, step_kinds, queued_kinds, cancel_kinds, Completed, Member, Before, Effect, Nothing, Finding, Cancel}
+use Rattle.findings.specs.{Findings.IsFinding, Findings.IsLeft, Findings.Lasts, Findings.Retries, Findings.occurs_at, Timespecs.of_timespecs}
+use Rattle.finding_rules.specs.{AtEnd.fault_if, AtEnd.has_fsync, Canceling.cancel_before, Canceling.is_of_cancel, Completions.cancels, Completions.circumstances, Completions.is_severing, Completions.member_of, Conditions.done_by, Conditions.has_unsynced, Conditions.is_of_step, Conditions.overflows, Conflicts.conflicts, Conflicts.done_at, Conflicts.is_candidate, Endings.Circumstances, Endings.ended_test, Endings.queued_test, Numbers.numbers_below, Uses.changes_at, Verdicts.judged_kind}
 use Rattle.finding_kinds.specs.declared.kind.Kind.TheVariants as group
 pub use Rattle.findings.specs.Given.{given}
+pub use Rattle.finding_rules.specs.Noted.{continues, depends_on_others, is_notable, is_plain, is_severed_in, noted, took_all}
 
 -- ---- one record
 
 -- The findings about one subject of those kinds of a group that pass a test.
 abbrev pub of_group : {K : Type 0} → (K → Kind) → (K → Bool) → ℕ → ℕ → List K → List Finding
 of_group whole test i n kinds = flat_map (λ kind. given (test kind) (record { moment = i; kind = whole kind; subject = n })) kinds
-
--- Whether completing with a result can be a finding: it is an error, or the request is short.
-abbrev pub is_notable : Row → ℤ → Bool
-is_notable row res = is_negative res || (is_bad row res || (is_transfer row.entry.opcode && is_less res row.entry.len))
 
 -- The findings about the completion of request r.
 abbrev pub of_ended : ℕ → Circumstances → Option Row → List Row → ℕ → Row → List Finding
@@ -66,10 +64,6 @@ members_at test rows before _ = []
 abbrev pub members_of : (ℕ → Option Row → Row → Bool) → List Row → Change → List Member
 members_of test rows c = members_at test rows c.old c.place
 
--- Whether the chain of request r has a later request, besides its linked timeout.
-abbrev pub continues : List Row → ℕ → Row → Bool
-continues rows r row = option_map_or (λ (other : Row). other.unit == row.unit) (next_in rows r) false
-
 -- Whether an event completes request r, and it severs its chain, which has a later request.
 abbrev pub severs_chain : List Row → ℕ → Option Row → Row → Bool
 severs_chain rows r before row = continues rows r row && is_severing before row
@@ -86,29 +80,9 @@ severing_in m past = flat_map (members_of (severs_chain m.table) m.table) past
 abbrev pub canceled_in : Machine → List Change → List Member
 canceled_in m past = flat_map (members_of cancels_at m.table) past
 
--- Whether a finding about the completion of a request can depend on those: the request was canceled,
--- or it severs its chain.
-abbrev pub depends_on_others : Option Row → Row → Bool
-depends_on_others before row = option_map_or (λ res. is_error 125 res || severs before row res) (ending_of before row) false
-
 -- The lists are those of the event, if they were computed.
 abbrev pub IsListed : Machine → List Change → Completed → Type 0
 IsListed m past c = c.is_known ≡ true → (c.severing.items ≡ severing_in m past) × (c.canceled.items ≡ canceled_in m past)
-
--- Whether an earlier request severed x's chain, and a later one than that was canceled, by all
--- requests that did so in an event.
-abbrev pub is_severed_in : List Member → List Member → Member → Bool
-is_severed_in severing canceled x = list_any (λ y. is_later y x && list_any (is_later y) canceled) severing
-
--- The circumstances in which an event completes request r, by what the search noted: the requests
--- that severed their chain in the event, those that were canceled, and the facts before it.
-abbrev pub noted : Setup → List Member → List Member → Before → Event → Machine → ℕ → Row → Circumstances
-noted s severing canceled b e after r row = record {
-  short_of_end = is_short_of_end s after row;
-  severs_others = continues after.table r row && list_any (is_later (member_of r row)) canceled;
-  is_named = (not (row.unit == r) && is_severed_in severing canceled (member_of r row)) || expires_over after.table e r;
-  was_ready = is_expiry_of r e && (b.was_ready && has_canceled_target after.table row);
-}
 
 -- The same, by the record of the event.
 abbrev pub noted_by : Setup → List Change → Before → Event → Machine → ℕ → Row → Circumstances
@@ -119,21 +93,6 @@ noted_by s past b e after r row = noted s (severing_in after past) (canceled_in 
 -- Completions went to the backlog, which was empty before.
 abbrev pub of_overflow : ℕ → Bool → Bool → List Finding
 of_overflow i before after = given (not before && after) (record { moment = i; kind = group.Overflow; subject = 0 })
-
--- Whether an enter took all entries that it was to submit, or waits. The number is its result.
-abbrev pub took_all : ℕ → Option ℤ → Bool
-took_all to_submit None = true
-took_all to_submit (Some (pos n)) = nat_le to_submit n
-took_all to_submit (Some (negsuc n)) = false
-
--- Whether an instruction that thread t did is a finding of no kind, by a test that costs little.
-abbrev pub is_plain : Bool → Instruction → Machine → ℕ → Bool
-is_plain changes (Put slot entry) m t = not changes
-is_plain changes (Push index) m t = false
-is_plain changes (Store address bytes) m t = true
-is_plain changes (Enter to_submit min_complete flags) m t = took_all to_submit (answer_of m t)
-is_plain changes Reap m t = true
-is_plain changes (Close fd) m t = false
 
 -- The findings about an instruction that thread t did. `changes` says whether it changed a slot.
 abbrev pub of_instruction : ℕ → Bool → Instruction → Machine → ℕ → List Finding

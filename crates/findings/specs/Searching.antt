@@ -1,18 +1,10 @@
 -- What a search for findings has seen of a run.
 use Rattle.std.specs.Prelude.{◌≡◌, ℕ, zero, suc, ◌≤◌, Bool, Option, Some, None, option_map, List, length, map, slice_get}
-use Rattle.findings.specs.Common.{Event, Setup, Machine, machine_at, IsRefused, Refused, Stopped, Finding, Before, Written, Watch, Memory}
+use Rattle.findings.specs.Common.{Event, Setup, machine_at, IsRefused, Refused, Stopped, Finding, Before, Written, Watch, Memory}
 use Rattle.runs.specs.declared.driving.Ended.{Ended}
-use Rattle.findings.specs.{Canceling.cancel_before, Completions.expires_over_ready, Conditions.counter_of, Conditions.done_by, Conditions.overflows, Findings.condition_holds_at, Records.Covers, Records.FoundBefore, Suspects.FollowsFiles, Uses.changes_at, Watched.continued, Watched.next_of, Watched.watched}
-
--- The facts about the machine before an event that the event may change.
-abbrev pub facts_before : Setup → Machine → Event → Before
-facts_before s m e = record {
-  overflows = overflows m;
-  counter = counter_of m e;
-  changes = changes_at m (done_by s m e);
-  cancel = cancel_before m e;
-  was_ready = expires_over_ready m e;
-}
+use Rattle.findings.specs.{Findings.condition_holds_at, Records.Covers, Records.FoundBefore, Suspects.FollowsFiles, Watched.continued, Watched.watched}
+use Rattle.finding_rules.specs.NextSteps.{next_of}
+pub use Rattle.finding_rules.specs.Facts.{facts_before}
 
 -- The facts before event i of a run.
 abbrev pub NotesFacts : Setup → List Event → ℕ → Before → Type 0

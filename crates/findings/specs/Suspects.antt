@@ -1,11 +1,9 @@
 -- What a search computes about WRITEs and FSYNCs.
-use Rattle.std.specs.Prelude.{◌≡◌, ℕ, ◌<◌, ◌==◌, Bool, true, false, not, ◌&&◌, ◌||◌, ◌++◌, ◌⊎◌, Option, Some, None, slice_get, List, length, map, MatchBool, option_to_list}
-use Rattle.findings.specs.Common.{option_map_or, list_any, has, Event, Setup, Machine, Finding, Kind, Conflict, FsyncRetried, FsyncEarly, Fsync, Written, Effect}
-use Rattle.findings.specs.{Durability.IsSuspect, Durability.failed, Durability.fsync_of, Durability.good, Durability.has_byte_of, Durability.is_volatile_at, Durability.moves, Durability.written_before, Durability.written_of, Given.given, Records.RetriedBefore, Records.judged}
-
--- Whether the set of object o, one of a list of sets of bytes, has byte k.
-abbrev pub is_marked : List (List ℕ) → ℕ → ℕ → Bool
-is_marked sets o k = option_map_or (λ (set : List ℕ). has set k) (slice_get sets o) false
+use Rattle.std.specs.Prelude.{◌≡◌, ℕ, ◌<◌, ◌==◌, Bool, true, false, not, ◌&&◌, ◌||◌, ◌++◌, ◌⊎◌, Option, Some, None, List, length, map, MatchBool, option_to_list}
+use Rattle.findings.specs.Common.{option_map_or, list_any, Event, Setup, Machine, Finding, Kind, Conflict, FsyncRetried, FsyncEarly, Fsync, Written, Effect}
+use Rattle.findings.specs.{Given.given, Records.RetriedBefore, Records.judged}
+use Rattle.finding_rules.specs.Durability.{IsSuspect, failed, fsync_of, good, has_byte_of, is_volatile_at, moves, written_before, written_of}
+pub use Rattle.finding_rules.specs.Verdicts.{is_marked}
 
 -- Whether an FSYNC, if there is one, is of object o.
 abbrev pub is_fsync_of : Option Fsync → ℕ → Bool

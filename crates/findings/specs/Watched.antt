@@ -1,34 +1,9 @@
 -- Conditions that are findings if they last to the end, with the moment since when each holds.
-use Rattle.std.specs.Prelude.{◌≡◌, ℕ, zero, suc, ◌==◌, Bool, true, false, nat_lt, if◌then◌else◌, Option, Some, None, slice_get, List, [], ◌∷◌, ◌++◌, length, map, All}
-use Rattle.findings.specs.Common.{Stage, Ready, Waiting, Event, Step, Instruction, Push, Reap, Setup, Machine, ThreadState, Finding, Lasting, LastingKind, Condition, Waits, LostWakeUp, NotTaken, NotReaped, Stuck, Next, Watch, instruction_at}
-use Rattle.findings.specs.{AtEnd.reported_as, Conditions.condition_holds, Conditions.is_blocked}
-use Rattle.findings.specs.declared.conditions.Next.TheVariants as next
-
--- What a thread with a stage and a next instruction does next.
-abbrev pub next_at : Stage → Option Instruction → Next
-next_at (Waiting submitted needed) x = next.Waits
-next_at Ready (Some (Push index)) = next.Pushes
-next_at Ready (Some Reap) = next.Reaps
-next_at Ready x = next.Other
-
--- What thread t does next, if it belongs to the setup.
-abbrev pub thread_next : Setup → ℕ → Option ThreadState → Next
-thread_next s t None = next.Other
-thread_next s t (Some x) = if nat_lt t (length s.threads) then next_at x.stage (instruction_at s (Step t) (Some x.counter)) else next.Other
-
-abbrev pub next_of : Setup → Machine → ℕ → Next
-next_of s m t = thread_next s t (slice_get m.threads t)
-
--- Whether it waits in its enter.
-abbrev pub is_waiting : Next → Bool
-is_waiting next.Waits = true
-is_waiting x = false
-
--- Whether it pushes or reaps, and that can't be done yet.
-abbrev pub blocks : Machine → Next → Bool
-blocks m next.Pushes = is_blocked m (Push 0)
-blocks m next.Reaps = is_blocked m Reap
-blocks m x = false
+use Rattle.std.specs.Prelude.{◌≡◌, ℕ, ◌==◌, Bool, true, false, if◌then◌else◌, Option, Some, None, List, [], ◌∷◌, ◌++◌, length, map, All}
+use Rattle.findings.specs.Common.{Event, Step, Setup, Machine, Finding, Lasting, LastingKind, Condition, Waits, LostWakeUp, NotTaken, NotReaped, Stuck, Next, Watch}
+use Rattle.finding_rules.specs.{AtEnd.reported_as, Conditions.condition_holds}
+use Rattle.finding_rules.specs.declared.conditions.Next.TheVariants as next
+pub use Rattle.finding_rules.specs.{NextSteps.blocks, NextSteps.is_waiting, NextSteps.next_at, NextSteps.next_of, NextSteps.thread_next, Numbers.numbers_below}
 
 -- The thread whose step an event was, and what it does next by the machine after it.
 abbrev pub moved_by : Setup → Event → Machine → Option (ℕ × Next)
@@ -58,11 +33,6 @@ advanced s m moment w = record w { next = next_of s m w.subject; since = continu
 abbrev pub fresh : Condition → ℕ → Watch
 fresh condition n = record { condition = condition; subject = n; next = next.Other; since = None }
 
--- The numbers below n, ascending.
-abbrev pub numbers_below : ℕ → List ℕ
-numbers_below zero = []
-numbers_below (suc n) = numbers_below n ++ n ∷ []
-
 -- The conditions of the rings, whose subject is 0.
 abbrev pub of_rings : List Watch
 of_rings = fresh LostWakeUp 0 ∷ fresh NotTaken 0 ∷ fresh NotReaped 0 ∷ []
@@ -81,10 +51,11 @@ of_kind n i None = []
 of_kind n i (Some kind) = record { moment = i; kind = Lasting kind; subject = n } ∷ []
 
 -- The finding about a condition, if it holds at the end and is reported.
-abbrev pub of_watch : Bool → Condition → ℕ → Option ℕ → List Finding
-of_watch over condition n None = []
-of_watch over condition n (Some i) = of_kind n i (reported_as condition over)
+abbrev pub of_watch : Bool → Machine → Condition → ℕ → Option ℕ → List Finding
+of_watch over m condition n None = []
+of_watch over m condition n (Some i) = of_kind n i (reported_as condition over m)
 
--- The finding about a watched condition. The Bool says whether the run is over at its end.
-abbrev pub of_lasting : Bool → Watch → List Finding
-of_lasting over w = of_watch over w.condition w.subject w.since
+-- The finding about a watched condition, by the machine at the end of the run. The Bool says whether
+-- the run is over then.
+abbrev pub of_lasting : Bool → Machine → Watch → List Finding
+of_lasting over m w = of_watch over m w.condition w.subject w.since

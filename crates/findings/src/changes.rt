@@ -3,15 +3,14 @@
 ghost use Rattle.std.specs.Prelude.{◌≡◌, ◌++◌, OnOk, flat_map};
 ghost use Rattle.findings.specs.{view, NamesOnce, noted_by, of_place, of_change, after_note, after_notes, IsListed, OfNoRow};
 
-use crate::completed::{Completed, prepare};
-use crate::conflicts::is_candidate;
+use crate::completed::prepare;
 use crate::following::{follow, is_candidate_in};
-use crate::leftover::row_at;
 use crate::noting::note_row;
 use crate::record::{Added, add_of_row, row_in};
-use crate::transition::Transition;
 use entries::Phase;
 use finding_kinds::{Finding, Times};
+use finding_rules::conflicts::is_candidate;
+use finding_rules::{Completed, Transition, row_at};
 use places::{Change, Changes, Place, Stretches, Value};
 
 // Records the phase of a request, if the search keeps the history.

@@ -1,51 +1,17 @@
-//! The requests that an event completes, as far as they sever their chain or are canceled
+//! Computing the requests that an event completes, as far as they sever their chain or are canceled
 //! (io_uring_enter(2), IOSQE_IO_LINK).
-ghost use Rattle.std.specs.Prelude.{◌≡◌, ◌++◌, [], true, false, IfOk, OnOk, flat_map};
+ghost use Rattle.std.specs.Prelude.{◌≡◌, ◌++◌, true, IfOk, OnOk, flat_map};
 ghost use Rattle.findings.specs.{member_if, members_of, severs_chain, cancels_at, severing_in, canceled_in, depends_on_others, IsListed};
 
 use crate::changes::pass_over;
-use crate::ends::{cancels, continues, depends_on_others, is_severing};
-use crate::leftover::row_at;
 use crate::record::{Added, row_in};
-use crate::transition::Transition;
 use entries::Row;
+use finding_rules::{
+    Completed, Member, Transition, cancels, continues, depends_on_others, is_severing, row_at,
+};
 use machine::State;
 use places::{Change, Changes, Place, Record};
 use std::alloc::{AllocError, Global};
-
-/// The number of a request, and of its chain.
-#[derive(Clone, Copy)]
-pub struct Member {
-    pub number: u32,
-    /// The number of the chain's first request.
-    pub unit: u32,
-}
-
-/// The requests that an event completes, as far as they can name others or be named. The lists are
-/// empty until they are known.
-#[derive(Drop)]
-pub struct Completed {
-    pub is_known: bool,
-    /// Soft-linked requests that failed or were short themselves, whose chain has a later request.
-    pub severing: Vec<Member>,
-    /// Requests that complete with ECANCELED, except linked timeouts.
-    pub canceled: Vec<Member>,
-}
-
-impl Completed {
-    /// Returns lists that aren't known yet.
-    pub(crate) fn unknown(alloc: Global) -> Completed
-        ensures unknown { result.is_known ≡ false }
-        ensures severing { result.severing.items ≡ [] }
-        ensures canceled { result.canceled.items ≡ [] }
-    {
-        Completed {
-            is_known: false,
-            severing: Vec::new(alloc),
-            canceled: Vec::new(alloc),
-        }
-    }
-}
 
 // Appends a request if the test is true.
 fn add_member(list: &mut Vec<Member>, test: bool, number: u32, row: &Row) -> Added

@@ -2,8 +2,8 @@
 ghost use Rattle.std.specs.Prelude.{◌≡◌, not, ◌==◌, filter, OnOk};
 ghost use Rattle.findings.specs.{is_candidate_in, followed};
 
-use crate::conflicts::is_candidate;
 use crate::record::{Added, row_in};
+use finding_rules::conflicts::is_candidate;
 use places::Value;
 
 /// Returns whether the value is an incomplete READ or WRITE.

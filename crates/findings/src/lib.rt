@@ -2,31 +2,20 @@
 //! exactly what the definition of each kind says.
 #![tactic(auto)]
 
-mod canceling;
 mod changes;
-mod circumstances;
 mod completed;
-mod conditions;
-mod conflicts;
-mod effect;
-mod ends;
 mod failures;
-mod files;
 mod following;
 pub mod laws;
 mod leftover;
+mod lost;
+mod marking;
 mod noting;
 mod ordering;
 mod record;
 mod searching;
 mod suspects;
-mod timespecs;
-mod transition;
-mod twins;
-mod unsynced;
-mod uses;
 mod verdicts;
 mod watching;
-mod writes;
 
 pub use searching::{Found, Search, search_run};

@@ -1,12 +1,11 @@
 //! Recording the history that the sentences of findings need.
 
-use crate::leftover::row_at;
 use crate::record::Added;
-use crate::transition::Transition;
 use entries::Phase;
 use finding_kinds::{
     Closed, History, Met, Reaped, Times, descriptor_number, instruction_at, number_at,
 };
+use finding_rules::{Transition, row_at};
 use links_drains::{is_guard, is_issued};
 use machine::{Event, Instruction, State};
 use opcodes::Choice;

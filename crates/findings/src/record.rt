@@ -1,22 +1,19 @@
 //! Collecting the findings of one event, group by group of kinds.
-ghost use Rattle.std.specs.Prelude.{◌≡◌, ◌++◌, OnOk, flat_map, option_copied};
-ghost use Rattle.findings.specs.{instruction_at, overflows, given, noted, of_ended, of_queued, of_row, row_in, of_overflow, of_instruction, of_step, of_cancel, of_number, of_conflicts, of_effect};
+ghost use Rattle.std.specs.Prelude.{◌≡◌, ◌≤◌, ◌++◌, drop, OnOk, flat_map, option_copied};
+ghost use Rattle.findings.specs.{waiting, sub_list, instruction_at, overflows, given, noted, of_ended, of_queued, of_row, row_in, of_overflow, of_instruction, of_step, of_cancel, of_number, of_conflicts, of_index, of_timespecs, of_effect};
 
-use crate::canceling::{Cancel, is_of_cancel};
-use crate::completed::Completed;
-use crate::conditions::{is_of_step, is_plain, overflows};
-use crate::conflicts::conflicts;
-use crate::effect::Effect;
-use crate::ends::{ended_test, ends_notably, queued_test};
-use crate::leftover::row_at;
-use crate::timespecs::add_of_timespecs;
-use crate::transition::Transition;
 use entries::Row;
 use finding_kinds::{
     CancelKind, ConflictKind, EndedKind, Finding, Kind, QueuedKind, StepKind, instruction_at,
 };
+use finding_rules::conflicts::conflicts;
+use finding_rules::{
+    Cancel, Completed, Effect, LOOKED_AT, Transition, ended_test, ends_notably, is_of_cancel,
+    is_of_step, is_over_slot, is_plain, overflows, queued_test, row_at, written_by,
+};
 use machine::{Event, Instruction, State};
 use places::Value;
+use ring_words::SubRing;
 use std::alloc::AllocError;
 
 /// The end of a function that adds to a list: an allocation may fail.
@@ -239,6 +236,40 @@ fn add_of_conflicts(
     match effect {
         Effect::Nothing => Ok(()),
         _ => add_of_numbers(found, at, effect, numbers),
+    }
+}
+
+// Adds the findings about the waiting indexes, after skipping some.
+fn add_of_indexes(
+    found: &mut Vec<Finding>,
+    moment: u32,
+    ring: &SubRing,
+    range: (u64, u64),
+    passed: u32,
+) -> Added
+    requires { passed ≤ waiting ring.now.head ring.now.tail }
+    ensures { OnOk result (found.new.items ≡ found.old.items
+        ++ flat_map (of_index moment ring.now.slots range) (drop passed (sub_list ring.now))) }
+{
+    for place in 0..ring.waiting() - passed {
+        let slot = ring.word(passed + place);
+        let test = is_over_slot(ring, range, slot);
+        add_if(found, test, moment, Kind::TimespecInUse, slot)?;
+    }
+    Ok(())
+}
+
+// Adds a finding for each entry, among the last 64 pushed and not yet taken, whose timespec the
+// event overwrote.
+fn add_of_timespecs(found: &mut Vec<Finding>, moment: u32, state: &State, effect: &Effect) -> Added
+    ensures { OnOk result (found.new.items
+        ≡ found.old.items ++ of_timespecs moment state.now effect.now) }
+{
+    let ring = state.submissions();
+    let passed = ring.waiting().saturating_sub(LOOKED_AT);
+    match effect {
+        Effect::Nothing => Ok(()),
+        _ => add_of_indexes(found, moment, ring, written_by(effect), passed),
     }
 }
 

@@ -3,18 +3,16 @@ ghost use Rattle.std.specs.Prelude.{◌≡◌, ◌≤◌, ◌++◌, List, length
 ghost use Rattle.findings.specs.{IsCopy, NamesOnce, Event, start, Accepts, view, SaysOver, IsAt, instruction_at, IsReportOf, overflows, done_as, noted_by, of_change, of_overflow, of_step, of_cancel, of_effect, after_notes, all_at_end, of_lasting, NotesFacts, HasSearched, Halted};
 
 use crate::changes::look_at_record;
-use crate::conditions::{Before, overflows, slot_met};
-use crate::effect::done_as;
-use crate::leftover::add_all_left;
+use crate::leftover::{add_all_left, add_all_unsynced};
+use crate::lost::note_lost;
 use crate::noting::{note_counter, note_dropped, note_emptied, note_event, note_slot};
 use crate::ordering::in_order;
 use crate::record::{Added, add_of_effect, add_of_event};
 use crate::suspects::{Durability, follow_files};
-use crate::transition::Transition;
-use crate::unsynced::add_all_unsynced;
 use crate::verdicts::judge;
 use crate::watching::{Watch, add_all_lasting, advance, begin, watches_of};
 use finding_kinds::{Finding, History};
+use finding_rules::{Before, Transition, done_as, overflows, slot_met};
 use machine::{Event, Setup, State};
 use places::Record;
 use quiescence::is_over;
@@ -113,10 +111,10 @@ fn add_end(
     state: &State,
 ) -> Added
     ensures { OnOk result (found.new.items ≡
-        (found.old.items ++ flat_map (of_lasting over) watches.now)
+        (found.old.items ++ flat_map (of_lasting over state.now) watches.now)
         ++ all_at_end setup.now moment over state.now) }
 {
-    add_all_lasting(found, over, watches)?;
+    add_all_lasting(found, over, state, watches)?;
     add_all_left(found, moment, over, state)?;
     add_all_unsynced(found, setup, moment, state)
 }
@@ -191,7 +189,8 @@ impl Search {
             mut found,
             watches,
             files,
-            history,
+            keeps_history,
+            mut history,
             ..
         } = self;
         let over = ends_over(setup, state)?;
@@ -199,6 +198,13 @@ impl Search {
         judge(&mut found, setup, state, &files.writes)?;
         add_end(&mut found, over, &watches, setup, end, state)?;
         found.extend_from_slice(&files.retried)?;
+        note_lost(
+            keeps_history,
+            &mut history.lost,
+            &found,
+            state,
+            &files.writes,
+        )?;
         Ok(Found {
             findings: in_order(found),
             history,

@@ -3,14 +3,13 @@
 ghost use Rattle.std.specs.Prelude.{◌≡◌, ℕ, ◌<◌, ◌++◌, ◌&&◌, ◌||◌, [], true, false, not, length, IfOk, OnOk, MatchBool, option_to_list};
 ghost use Rattle.findings.specs.{IsCopy, has, is_volatile_at, is_within, moves, completed_by, is_marked, is_fsync_of, SaysMarked, AddsRetried, Follows};
 
-use crate::effect::Effect;
 use crate::failures::Failures;
+use crate::marking::mark_volatile;
 use crate::record::{Added, add_if};
-use crate::transition::Transition;
-use crate::writes::{Fsync, Written, completed_by, fsync_of, mark_volatile, written_of};
 use bit_sets::BitSet;
 use entries::EIO;
 use finding_kinds::{Finding, Kind, Retry, number_at};
+use finding_rules::{Effect, Fsync, Transition, Written, completed_by, fsync_of, written_of};
 use machine::{Setup, State};
 use places::Place;
 use std::alloc::{AllocError, Global};
@@ -154,8 +153,8 @@ fn add_written(writes: &mut Vec<Written>, written: Option<Written>) -> Added
     Ok(())
 }
 
-// Removes `count` numbers from `first` on from a set.
-fn forget(bytes: &mut BitSet, first: u64, count: u64)
+/// Removes `count` numbers from `first` on from a set.
+pub(crate) fn forget(bytes: &mut BitSet, first: u64, count: u64)
     ensures { (k : ℕ) → has bytes.new k ≡ (has bytes.old k && not (is_within first count k)) }
 {
     while let Some(byte) = bytes.next(first as usize) {

@@ -1,12 +1,12 @@
-//! Verdicts that the end of a run decides: whether a WRITE is lost (fsync(2)).
-ghost use Rattle.std.specs.Prelude.{◌≡◌, ℕ, ◌+◌, ◌<◌, ◌==◌, ◌&&◌, map, length, IfOk, OnOk};
-ghost use Rattle.findings.specs.{list_any, has, is_volatile_at, has_byte, has_byte_of, judged_kind, judged, is_marked, is_early, has_early, JudgesBy, Judges, numbers_below};
+//! The verdicts that the end of a run decides (fsync(2)).
+ghost use Rattle.std.specs.Prelude.{◌≡◌, ℕ, ◌<◌, map, length, IfOk, OnOk};
+ghost use Rattle.findings.specs.{is_volatile_at, has_byte_of, judged, is_marked, is_early, has_early, JudgesBy, Judges};
 
+use crate::marking::mark_volatile;
 use crate::record::Added;
-use crate::watching::fault_if;
-use crate::writes::{Written, mark_volatile};
 use bit_sets::BitSet;
 use finding_kinds::{ConflictKind, Finding, Kind};
+use finding_rules::{Written, judged_kind};
 use machine::{Setup, State};
 use std::alloc::{AllocError, Global};
 
@@ -25,47 +25,6 @@ fn volatile_sets(alloc: Global, setup: &Setup, state: &State) -> Result<Vec<BitS
         sets.push(bytes)?;
     }
     Ok(sets)
-}
-
-// Returns whether a set has one of `count` numbers from `first` on.
-fn has_between(bytes: &BitSet, first: u64, count: u64) -> bool
-    ensures { result ≡ list_any (λ k. has bytes.now (first + k)) (numbers_below count) }
-{
-    match bytes.next(first as usize) {
-        Some(byte) => byte as u64 - first < count,
-        None => false,
-    }
-}
-
-// Returns whether a WRITE moved a byte of these sets.
-fn has_byte(sets: &[BitSet], written: &Written) -> bool
-    ensures { result ≡ has_byte (is_marked sets.now) written.now }
-{
-    match sets.get(written.file as usize) {
-        Some(bytes) => has_between(bytes, written.first, written.count),
-        None => false,
-    }
-}
-
-// Returns whether a request is one of these WRITEs, and moved such a byte.
-fn has_byte_of(sets: &[BitSet], writes: &[Written], row: u32) -> bool
-    ensures { result ≡ has_byte_of (is_marked sets.now) writes.now row }
-{
-    writes
-        .iter()
-        .any(|written| written.row == row && has_byte(sets, written))
-}
-
-// Returns the kind of a finding, given the bytes that are not durable at the end.
-fn judged_kind(sets: &[BitSet], writes: &[Written], kind: Kind, row: u32) -> Kind
-    ensures { result ≡ judged_kind (has_byte_of (is_marked sets.now) writes.now) kind row }
-{
-    match kind {
-        Kind::Conflict(ConflictKind::FsyncEarly(_)) => Kind::Conflict(ConflictKind::FsyncEarly(
-            fault_if(has_byte_of(sets, writes, row)),
-        )),
-        _ => kind,
-    }
 }
 
 fn judged(sets: &[BitSet], writes: &[Written], finding: Finding) -> Finding

@@ -1,10 +1,10 @@
 //! Conditions that are findings if they last to the end, with the moment since when each holds.
 ghost use Rattle.std.specs.Prelude.{◌≡◌, ◌++◌, map, IfOk, OnOk, flat_map};
-ghost use Rattle.findings.specs.{Setup, fault_if, reported_as, next_of, moved_by, next_after, AreNext, continued, advanced, of_rings, watched, fresh, numbers_below, of_lasting};
+ghost use Rattle.findings.specs.{Setup, reported_as, next_of, moved_by, next_after, AreNext, continued, advanced, of_rings, watched, fresh, numbers_below, of_lasting};
 
-use crate::conditions::{Condition, Next, condition_holds, next_of};
 use crate::record::{Added, add_if};
-use finding_kinds::{Finding, Kind, LastingKind, Verdict};
+use finding_kinds::{Finding, Kind, LastingKind};
+use finding_rules::{Condition, Next, condition_holds, fault_if, is_idle, next_of};
 use machine::{Event, Setup, State};
 use std::alloc::{AllocError, Global};
 
@@ -146,20 +146,13 @@ pub(crate) fn watches_of(alloc: Global, setup: &Setup) -> Result<Vec<Watch>, All
     Ok(list)
 }
 
-/// Returns a fault if the test is true, else a note.
-pub(crate) fn fault_if(test: bool) -> Verdict
-    ensures { result ≡ fault_if test }
-{
-    if test { Verdict::Fault } else { Verdict::Note }
-}
-
-// Returns the finding that a condition is if it lasts to the end. `over` says whether the run is
-// over then.
-fn reported_as(condition: Condition, over: bool) -> Option<LastingKind>
-    ensures { result ≡ reported_as condition over }
+// Returns the finding that a condition is if it lasts to the end, from the state there. `over` says
+// whether the run is over then.
+fn reported_as(condition: Condition, over: bool, state: &State) -> Option<LastingKind>
+    ensures { result ≡ reported_as condition over state.now }
 {
     match (condition, over) {
-        (Condition::Waits, _) => Some(LastingKind::Waits(fault_if(over))),
+        (Condition::Waits, _) => Some(LastingKind::Waits(fault_if(over && !is_idle(state)))),
         (Condition::LostWakeUp, _) => Some(LastingKind::LostWakeUp(fault_if(over))),
         (Condition::NotTaken, _) => Some(LastingKind::NotTaken(fault_if(over))),
         (Condition::NotReaped, _) => Some(LastingKind::NotReaped),
@@ -169,26 +162,32 @@ fn reported_as(condition: Condition, over: bool) -> Option<LastingKind>
 }
 
 // Adds a finding if the condition holds and is reported.
-fn add_lasting(found: &mut Vec<Finding>, over: bool, watch: &Watch) -> Added
-    ensures { OnOk result (found.new.items ≡ found.old.items ++ of_lasting over watch.now) }
+fn add_lasting(found: &mut Vec<Finding>, over: bool, state: &State, watch: &Watch) -> Added
+    ensures { OnOk result (found.new.items ≡
+        found.old.items ++ of_lasting over state.now watch.now) }
 {
     let Some(moment) = watch.since else {
         return Ok(());
     };
-    match reported_as(watch.condition, over) {
+    match reported_as(watch.condition, over, state) {
         Some(kind) => add_if(found, true, moment, Kind::Lasting(kind), watch.subject),
         None => Ok(()),
     }
 }
 
-/// Adds a finding for each condition that holds and is reported. `over` says whether the run is
-/// over at its end.
-pub(crate) fn add_all_lasting(found: &mut Vec<Finding>, over: bool, watches: &[Watch]) -> Added
+/// Adds a finding for each condition that holds and is reported, from the state at the run's end.
+/// `over` says whether the run is over then.
+pub(crate) fn add_all_lasting(
+    found: &mut Vec<Finding>,
+    over: bool,
+    state: &State,
+    watches: &[Watch],
+) -> Added
     ensures { OnOk result (found.new.items ≡
-        found.old.items ++ flat_map (of_lasting over) watches.now) }
+        found.old.items ++ flat_map (of_lasting over state.now) watches.now) }
 {
     for watch in watches {
-        add_lasting(found, over, watch)?;
+        add_lasting(found, over, state, watch)?;
     }
     Ok(())
 }

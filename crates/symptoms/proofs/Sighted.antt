@@ -1,12 +1,12 @@
--- The first sighting of a symptom, from the findings of a run or from the values of a place.
+-- The first sighting of a symptom, from the findings of a run or from the values of places.
 use Rattle.std.proofs.Common.{◌≡◌, ℕ, ◌≤◌, true, List, length, refl, sym, subst, arith}
 use Rattle.std.specs.Prelude.{Option, Some, None, find, option_map}
+use Rattle.std.specs.Borrow.{Bor}
 use Rattle.std.proofs.lemmas.List.Elements.{All-contains}
-use Rattle.places.specs.declared.place.Place.{Place}
-use Rattle.places.specs.declared.value.Value.{Value}
 use Rattle.scenario.specs.declared.event.Event.{Event}
 use Rattle.scenario.specs.declared.setup.Setup.{Setup}
 use Rattle.finding_kinds.specs.declared.finding.Finding.{Finding}
+use Rattle.symptoms.specs.declared.symptom.Goal.{Goal}
 use Rattle.symptoms.specs.declared.symptom.Sighting.{Sighting}
 use Rattle.symptoms.specs.declared.symptom.Wanted.{Wanted}
 use Rattle.symptoms.specs.declared.symptom.Symptom.TheVariants as sought
@@ -32,14 +32,13 @@ first_of s es wanted fs r (Some f) e =
 pub sighted_finding : (s : Setup) (es : List Event) (wanted : Wanted) (fs : List Finding) → AreConclusive s es fs → IsFirst s es (sought.Finding wanted) (option_map seen_by (find (λ f. is_wanted wanted f.kind) fs))
 sighted_finding s es wanted fs r = first_of s es wanted fs r (find (λ f. is_wanted wanted f.kind) fs) refl
 
--- So is the first moment at which the place takes the value, over the whole run.
-sighted_place : (s : Setup) (es : List Event) (p : Place) (v : Value) (o : Option ℕ) → IsFirstUpTo s es (length es) p v o → IsFirst s es (sought.Reaches p v) (option_map seen_at o)
-sighted_place s es p v None h = within_run s es p v h
-sighted_place s es p v (Some k) h = record { shown = h.0; seen = h.0; least = h.1 }
+-- So is the first moment at which the goals are reached, over the whole run.
+sighted_goals : (s : Setup) (es : List Event) (gs : Bor (List Goal)) (o : Option ℕ) → IsFirstUpTo s es (length es) gs.now o → IsFirst s es (sought.Reaches gs) (option_map seen_at o)
+sighted_goals s es gs None h = within_run s es gs.now h
+sighted_goals s es gs (Some k) h = record { shown = h.0; seen = h.0; least = h.1 }
 
 -- The same, of a run that was searched for them.
-pub sighted_at : (s : Setup) (es : List Event) (p q : Place) (v w : Value) (o : Option ℕ) (x : Option Sighting) → q ≡ p → w ≡ v → HasLooked s es (length es) q w o → x ≡ option_map seen_at o → IsFirst s es (sought.Reaches p v) x
-sighted_at s es p q v w o x place value h same =
-    let there : IsFirstUpTo s es (length es) p w o = subst (λ (r : Place). IsFirstUpTo s es (length es) r w o) place h.first in
-    let first : IsFirstUpTo s es (length es) p v o = subst (λ (u : Value). IsFirstUpTo s es (length es) p u o) value there in
-    subst (IsFirst s es (sought.Reaches p v)) (sym same) (sighted_place s es p v o first)
+pub sighted_at : (s : Setup) (es : List Event) (gs : Bor (List Goal)) (hs : List Goal) (o : Option ℕ) (x : Option Sighting) → hs ≡ gs.now → HasLooked s es (length es) hs o → x ≡ option_map seen_at o → IsFirst s es (sought.Reaches gs) x
+sighted_at s es gs hs o x goals h same =
+    let first : IsFirstUpTo s es (length es) gs.now o = subst (λ (r : List Goal). IsFirstUpTo s es (length es) r o) goals h.first in
+    subst (IsFirst s es (sought.Reaches gs)) (sym same) (sighted_goals s es gs o first)

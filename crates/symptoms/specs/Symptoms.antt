@@ -1,8 +1,6 @@
 -- What a run is searched for, and the moments at which it shows that.
-use Rattle.std.specs.Prelude.{◌≡◌, ◌≢◌, ℕ, ◌-◌, ◌≤◌, Bool, true, false, not, ◌&&◌, ◌||◌, Option, Some, None, List, filter, length}
+use Rattle.std.specs.Prelude.{◌≡◌, ℕ, ◌-◌, ◌≤◌, Bool, true, false, not, ◌&&◌, ◌||◌, Option, Some, None, List, filter, length}
 use Rattle.std.specs.List.{list_any, All, Contains}
-use Rattle.places.specs.declared.place.Place.{Place}
-use Rattle.places.specs.declared.value.Value.{Value}
 use Rattle.places.specs.View.{View}
 use Rattle.scenario.specs.declared.event.Event.{Event}
 use Rattle.scenario.specs.declared.setup.Setup.{Setup}
@@ -19,8 +17,9 @@ use Rattle.finding_kinds.specs.contracts.kind.KindPartialEq.TheImpl as compared
 use Rattle.finding_kinds.specs.Kinds.{is_fault}
 use Rattle.finding_kinds.specs.Orders.{have_one_name}
 use Rattle.findings.specs.Findings.{IsFinding, Rises}
+use Rattle.symptoms.specs.declared.symptom.Goal.{Goal}
 use Rattle.symptoms.specs.declared.symptom.Wanted.{Wanted}
-use Rattle.symptoms.specs.declared.symptom.Wanted.TheVariants.{Faults, Kinds, Exactly}
+use Rattle.symptoms.specs.declared.symptom.Wanted.TheVariants.{FaultsBut, Kinds, Exactly}
 use Rattle.symptoms.specs.declared.symptom.Symptom.{Symptom}
 use Rattle.symptoms.specs.declared.symptom.Symptom.TheVariants as sought
 use Rattle.symptoms.specs.declared.symptom.Sighting.{Sighting}
@@ -40,7 +39,7 @@ is_among names kind = list_any (λ name. have_one_name name kind) names
 
 -- Whether findings of a kind are wanted.
 abbrev pub is_wanted : Wanted → Kind → Bool
-is_wanted Faults kind = is_fault kind && not (is_of_device kind)
+is_wanted (FaultsBut names) kind = is_fault kind && not (is_of_device kind) && not (is_among names.now kind)
 is_wanted (Kinds names) kind = is_among names.now kind
 is_wanted (Exactly one) kind = (compared.ghosts).eq one kind
 
@@ -69,28 +68,32 @@ pub record IsWantedAt (s : Setup) (es : List Event) (wanted : Wanted) (m : ℕ) 
 
 -- ---- places
 
--- A place has the value in the new view, and had another in the old one, or none.
-pub record Took (old new : View) (p : Place) (v : Value) : Type 0 where
-  pub here : new p ≡ Some v
-  pub before : old p ≢ Some v
+-- The place of each goal has its value.
+abbrev pub HoldAll : View → List Goal → Type 0
+HoldAll seen goals = All (λ goal. seen goal.place ≡ Some goal.value) goals
 
--- At moment m of a run a place has the value, and it didn't one event earlier.
-abbrev pub TakesAt : Setup → List Event → Place → Value → ℕ → Type 0
-TakesAt s es p v m = Took (view (machine_at s es (m - 1))) (view (machine_at s es m)) p v
+-- All goals hold in the new view, and they don't all hold in the old one.
+pub record Took (old new : View) (goals : List Goal) : Type 0 where
+  pub here : HoldAll new goals
+  pub before : HoldAll old goals → ⊥
+
+-- At moment m of a run all goals hold, and they don't all hold one event earlier.
+abbrev pub TakesAt : Setup → List Event → List Goal → ℕ → Type 0
+TakesAt s es goals m = Took (view (machine_at s es (m - 1))) (view (machine_at s es m)) goals
 
 -- ---- symptoms
 
--- A run shows a symptom at moment m: by a wanted finding, or by the value of a place.
+-- A run shows a symptom at moment m: by a wanted finding, or by the values of places.
 abbrev pub Shows : Setup → List Event → Symptom → ℕ → Type 0
 Shows s es (sought.Finding wanted) m = (f : Finding) × IsWantedAt s es wanted m f
-Shows s es (sought.Reaches p v) m = TakesAt s es p v m
+Shows s es (sought.Reaches goals) m = TakesAt s es goals.now m
 
--- What shows a symptom at moment m: this finding, or the value of a place.
+-- What shows a symptom at moment m: this finding, or the values of places.
 abbrev pub IsSeenAt : Setup → List Event → Symptom → ℕ → Option Finding → Type 0
 IsSeenAt s es (sought.Finding wanted) m (Some f) = IsWantedAt s es wanted m f
 IsSeenAt s es (sought.Finding wanted) m None = ⊥
-IsSeenAt s es (sought.Reaches p v) m (Some f) = ⊥
-IsSeenAt s es (sought.Reaches p v) m None = TakesAt s es p v m
+IsSeenAt s es (sought.Reaches goals) m (Some f) = ⊥
+IsSeenAt s es (sought.Reaches goals) m None = TakesAt s es goals.now m
 
 -- A run shows a symptom first as the sighting says.
 pub record IsSighting (s : Setup) (es : List Event) (wanted : Symptom) (x : Sighting) : Type 0 where
@@ -113,6 +116,6 @@ pub record AreConclusive (s : Setup) (es : List Event) (fs : List Finding) : Typ
 abbrev pub seen_by : Finding → Sighting
 seen_by f = record { moment = f.moment; finding = Some f }
 
--- The sighting of a place's value at a moment.
+-- The sighting of places' values at a moment.
 abbrev pub seen_at : ℕ → Sighting
 seen_at m = record { moment = m; finding = None }

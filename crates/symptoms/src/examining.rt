@@ -8,11 +8,10 @@ ghost use Rattle.symptoms.specs.Symptoms.{is_wanted, seen_by, seen_at, AreConclu
 
 use crate::conclusive::conclusive_findings;
 use crate::reaching::{Lookout, Sought};
-use crate::symptom::{Sighting, Symptom, Wanted};
+use crate::symptom::{Goal, Sighting, Symptom, Wanted};
 use finding_kinds::Finding;
 use findings::Search;
 use machine::{Event, Setup, State};
-use places::{Place, Value};
 use runs::{Ended, Pair, drive};
 use std::alloc::{AllocError, Global};
 use std::marker::Brand;
@@ -39,7 +38,7 @@ fn sighting_by(finding: Option<Finding>) -> Option<Sighting>
     }
 }
 
-// Returns the sighting of the first moment at which a place takes a value.
+// Returns the sighting of the first moment at which places take values.
 fn sighting_at(moment: Option<u32>) -> Option<Sighting>
     ensures { result ≡ option_map seen_at moment }
 {
@@ -112,23 +111,21 @@ fn examine_findings(
     }
 }
 
-// Looks for the first moment at which the place takes the value.
-fn examine_place_as<K: Sought>(
+// Looks for the first moment at which the goals are reached.
+fn examine_goals_as<K: Sought>(
     alloc: Global,
     state: &mut State,
     setup: &Setup,
     events: &[Event],
-    place: Place,
-    value: &Value,
+    goals: &[Goal],
 ) -> Result<Examined, Ended<AllocError>>
     requires starts { state.old ≡ start setup.now }
     requires most { length events.now ≤ 1048576 }
-    requires place { place ≡ K.place }
-    requires value { value.now ≡ K.value }
+    requires goals { goals.now ≡ K.goals }
     ensures runs { OnOk result (Accepts (start setup.now) events.now) }
     ensures at { OnOk result (IsAt setup.now events.now (length events.now) state.new) }
     ensures sighting { IfOk result
-        (λ x. IsFirst setup.now events.now (Reaches place value.now) x.sighting) }
+        (λ x. IsFirst setup.now events.now (Reaches goals.entry) x.sighting) }
     ensures findings { IfOk result
         (λ x. AreConclusive setup.now events.now x.findings.items) }
     ensures err { IfErr result (Halted setup.now events.now) }
@@ -136,9 +133,9 @@ fn examine_place_as<K: Sought>(
     let Ok(search) = Search::without_history(alloc, setup, state) else {
         return Err(Ended::Memory);
     };
-    let mut observers: Pair<Search, Lookout<K>> = Pair {
+    let mut observers: Pair<Search, Lookout<'_, K>> = Pair {
         first: search,
-        second: Lookout::new(place, *value),
+        second: Lookout::new(goals),
     };
     match drive(state, setup, events, &mut observers) {
         Ok(()) => {
@@ -177,8 +174,6 @@ pub fn examine(
 {
     match symptom {
         Symptom::Finding(wanted) => examine_findings(alloc, state, setup, events, wanted),
-        Symptom::Reaches(place, value) => {
-            examine_place_as::<Brand>(alloc, state, setup, events, *place, value)
-        }
+        Symptom::Reaches(goals) => { examine_goals_as::<Brand>(alloc, state, setup, events, goals) }
     }
 }

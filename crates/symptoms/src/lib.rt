@@ -1,4 +1,4 @@
-//! Symptoms, for which a run is searched: wanted findings, or a place that takes a value.
+//! Symptoms, for which a run is searched: wanted findings, or places that take values.
 #![tactic(auto)]
 
 mod conclusive;
@@ -8,4 +8,4 @@ mod symptom;
 
 pub use conclusive::is_of_end;
 pub use examining::{Examined, examine, examined_by};
-pub use symptom::{Sighting, Symptom, Wanted};
+pub use symptom::{Goal, Sighting, Symptom, Wanted};

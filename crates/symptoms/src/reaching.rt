@@ -1,57 +1,70 @@
-//! Looks for the first moment at which a place takes a value, while a run is stepped.
-ghost use Rattle.std.specs.Prelude.{◌≡◌, ◌≤◌, ◌↔◌, IsTrue, Some, List, length};
+//! Looks for the first moment at which places take their values, while a run is stepped.
+ghost use Rattle.std.specs.Prelude.{◌≡◌, ◌≤◌, ◌↔◌, IsTrue, Some, List, [], length, is_some};
 ghost use Rattle.std.specs.Bool.{MatchBool};
-ghost use Rattle.places.specs.declared.place.Place.{Place};
-ghost use Rattle.places.specs.declared.place.Place.TheVariants.{Clock};
-ghost use Rattle.places.specs.declared.value.Value.{Value};
-ghost use Rattle.places.specs.declared.value.Value.TheVariants.{Number};
-ghost use Rattle.places.specs.View.{View, Exact};
+ghost use Rattle.std.specs.List.{list_any};
+ghost use Rattle.places.specs.View.{View, Exact, named};
 ghost use Rattle.scenario.specs.declared.event.Event.{Event};
 ghost use Rattle.scenario.specs.declared.setup.Setup.{Setup};
 ghost use Rattle.machine.specs.Whole.{view};
-ghost use Rattle.symptoms.specs.Symptoms.{Took};
+ghost use Rattle.symptoms.specs.declared.symptom.Goal.{Goal};
+ghost use Rattle.symptoms.specs.Symptoms.{HoldAll, Took};
 ghost use Rattle.symptoms.specs.Reaching.{first_of, HasLooked};
 
+use crate::symptom::Goal;
 use machine::State;
 use places::{Place, Record, Value};
 use runs::{Observed, Observer};
 use std::convert::Infallible;
 use std::marker::{Brand, PhantomData};
 
-/// The place and the value that are looked for, for proofs.
+/// The goals that are looked for, for proofs.
 pub trait Sought {
-    ghost place: { Place };
-
-    ghost value: { Value };
+    ghost goals: { List Goal };
 }
 
 impl Sought for Brand {
-    ghost place = { Clock };
-
-    ghost value = { Number 0 };
+    ghost goals = { [] };
 }
 
-/// An observer that looks for the first moment at which a place takes a value.
+/// An observer that looks for the first moment at which all goals hold and one event earlier they
+/// didn't.
 #[derive(Drop)]
-pub(crate) struct Lookout<K> {
-    place: Place,
-    value: Value,
+pub(crate) struct Lookout<'a, K> {
+    goals: &'a [Goal],
     /// That moment, if it has come.
     pub reached: Option<u32>,
     proof: PhantomData<K>,
 }
 
-// Returns whether the event of a record brought the place to the value. `state` is the state after
-// that event.
-fn took(state: &State, past: &Record, place: Place, value: &Value) -> bool
+// Returns whether the event of a record brought the goals about. `state` is the state after that
+// event. A record names exactly the places whose values differ, so values are read only if it names
+// one of the goals' places.
+fn took(state: &State, past: &Record, goals: &[Goal]) -> bool
     ensures { (old : View) → Exact old (view state.now) past.now
-        → MatchBool result (Took old (view state.now) place value.now)
-        (Took old (view state.now) place value.now → ⊥) }
+        → MatchBool result (Took old (view state.now) goals.now)
+        (Took old (view state.now) goals.now → ⊥) }
 {
-    if past.names(place) {
-        return has_value(state, place, value);
+    if names_one(past, goals) {
+        return hold_all(state, goals);
     }
     false
+}
+
+// Returns whether a record names the place of one of the goals.
+fn names_one(past: &Record, goals: &[Goal]) -> bool
+    ensures { result ≡ list_any (λ goal. is_some (named past.now goal.place)) goals.now }
+{
+    goals.iter().any(|goal| past.names(goal.place))
+}
+
+// Returns whether the place of each goal has its value.
+fn hold_all(state: &State, goals: &[Goal]) -> bool
+    ensures { MatchBool result (HoldAll (view state.now) goals.now)
+        (HoldAll (view state.now) goals.now → ⊥) }
+{
+    goals
+        .iter()
+        .all(|goal| has_value(state, goal.place, &goal.value))
 }
 
 fn has_value(state: &State, place: Place, value: &Value) -> bool
@@ -63,8 +76,8 @@ fn has_value(state: &State, place: Place, value: &Value) -> bool
     }
 }
 
-// Returns the first moment of two: one found before, if any, and this one if the place takes the
-// value then.
+// Returns the first moment of two: one found before, if any, and this one if the goals are reached
+// then.
 fn first_of(reached: Option<u32>, is_taken: bool, moment: u32) -> Option<u32>
     ensures { result ≡ first_of reached is_taken moment }
 {
@@ -75,33 +88,30 @@ fn first_of(reached: Option<u32>, is_taken: bool, moment: u32) -> Option<u32>
     }
 }
 
-impl<K: Sought> Lookout<K> {
+impl<'a, K: Sought> Lookout<'a, K> {
     /// Returns an observer that has seen no event.
     #[tactic(auto, using(crate::proofs::Taking::looked_none))]
-    pub(crate) fn new(place: Place, value: Value) -> Lookout<K>
-        requires place { place ≡ K.place }
-        requires value { value ≡ K.value }
-        ensures place { result.place ≡ K.place }
-        ensures value { result.value ≡ K.value }
+    pub(crate) fn new(goals: &'a [Goal]) -> Lookout<'a, K>
+        requires { goals.now ≡ K.goals }
+        ensures goals { result.goals.now ≡ K.goals }
         ensures looked { (s : Setup) (es : List Event) → length es ≤ 1048576
-            → HasLooked s es 0 result.place result.value result.reached }
+            → HasLooked s es 0 result.goals.now result.reached }
     {
         Lookout {
-            place,
-            value,
+            goals,
             reached: None,
             proof: PhantomData,
         }
     }
 }
 
-impl<K: Sought> Observer for Lookout<K> {
+impl<'a, K: Sought> Observer for Lookout<'a, K> {
     type Note = ();
 
     type Stop = Infallible;
 
-    ghost has_seen = { λ o s es i. (o.place ≡ K.place) × (o.value ≡ K.value)
-        × HasLooked s es i o.place o.value o.reached };
+    ghost has_seen = { λ o s es i. (o.goals.now ≡ K.goals)
+        × HasLooked s es i o.goals.now o.reached };
 
     ghost notes = { λ s es i n. Unit {0} };
 
@@ -112,7 +122,7 @@ impl<K: Sought> Observer for Lookout<K> {
     }
 
     fn after(&mut self, at: Observed<'_>, past: &Record, _note: ()) -> Result<(), Infallible> {
-        let is_taken = took(at.state, past, self.place, &self.value);
+        let is_taken = took(at.state, past, self.goals);
         self.reached = first_of(self.reached, is_taken, at.index as u32 + 1);
         Ok(())
     }

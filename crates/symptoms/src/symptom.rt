@@ -8,13 +8,20 @@ use places::{Place, Value};
 /// Which findings are wanted.
 #[derive(Clone, Copy)]
 pub enum Wanted<'a> {
-    /// Faults, other than failed and short requests: those occur in a correct program too, because
-    /// devices fail.
-    Faults,
+    /// Faults whose kind has the name of none of these. Failed and short requests aren't wanted
+    /// either: those occur in a correct program too, because devices fail.
+    FaultsBut(&'a [Kind]),
     /// Findings, also notes, whose kind has the name of one of these.
     Kinds(&'a [Kind]),
     /// Findings of this kind, with its verdict.
     Exactly(Kind),
+}
+
+/// A place, and the value that it is to have.
+#[derive(Clone, Copy)]
+pub struct Goal {
+    pub place: Place,
+    pub value: Value,
 }
 
 /// What a run is searched for.
@@ -22,15 +29,16 @@ pub enum Wanted<'a> {
 pub enum Symptom<'a> {
     /// A wanted finding.
     Finding(Wanted<'a>),
-    /// A moment at which the place has the value, and didn't have it one event earlier.
-    Reaches(Place, Value),
+    /// A moment at which each of these places has its value, when one event earlier some place
+    /// didn't. There is none if there are no goals.
+    Reaches(&'a [Goal]),
 }
 
 /// The first moment at which a run shows a symptom.
 #[derive(Clone, Copy)]
 pub struct Sighting {
     pub moment: u32,
-    /// The first wanted finding, or None if a place takes a value.
+    /// The first wanted finding, or None if places take values.
     pub finding: Option<Finding>,
 }
 
@@ -54,7 +62,9 @@ impl Wanted<'_> {
         ensures { result ≡ is_wanted self.now kind }
     {
         match self {
-            Wanted::Faults => kind.is_fault() && !is_of_device(kind),
+            Wanted::FaultsBut(names) => {
+                kind.is_fault() && !is_of_device(kind) && !is_among(names, kind)
+            }
             Wanted::Kinds(names) => is_among(names, kind),
             Wanted::Exactly(exact) => *exact == kind,
         }

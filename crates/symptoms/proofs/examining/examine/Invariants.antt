@@ -1,4 +1,4 @@
 use Rattle.symptoms.proofs.examining.examine.Given as goal
 
-abbrev pub ghosts-examine_place_as : goal.ghosts-examine_place_as
-ghosts-examine_place_as a = record { place = a.place; value = a.value.now }
+abbrev pub ghosts-examine_goals_as : goal.ghosts-examine_goals_as
+ghosts-examine_goals_as a = record { goals = a.goals.now }

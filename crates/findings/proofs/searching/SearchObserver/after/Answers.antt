@@ -1,6 +1,12 @@
-use Rattle.findings.proofs.Common.{◌+◌, map, ◌∙◌, ap, subst, arith, completed_by, Follows, advanced}
+use Rattle.findings.proofs.Common.{◌+◌, map, ◌∙◌, ap, subst, arith, slice_get_within, completed_by, Follows, advanced}
 use Rattle.findings.proofs.{Followed.seen_more, Lasting.mapped_back, NextSteps.are_next}
 use Rattle.findings.proofs.searching.SearchObserver.after.Goals as goal
+
+pub overflow_cast-moment : goal.overflow_cast-moment
+overflow_cast-moment c = omega (arith, c.requires.seen.most, slice_get_within _ c.args.at.index c.args.at.event c.requires.at.there)
+
+pub overflow_add-moment : goal.overflow_add-moment
+overflow_add-moment c = omega (arith, c.requires.seen.most, slice_get_within _ c.args.at.index c.args.at.event c.requires.at.there)
 
 pub advance-requires : goal.advance-requires
 advance-requires c =

@@ -1,0 +1,12 @@
+pub mod Common
+pub mod Members
+pub mod Draining
+pub mod Looking
+pub mod Unfinished
+pub mod Waiting
+pub mod Barriers
+pub mod Alike
+pub mod Between
+pub mod Durability
+pub mod StuckSteps
+pub mod NextSteps

@@ -1,6 +1,0 @@
--- Answered here, so that a wrong body fails at once.
-use Rattle.std.proofs.Common.{rules}
-use Rattle.findings.proofs.circumstances.ends_before.Goals as goal
-
-pub returns : goal.returns
-returns c = search rules

@@ -1,5 +1,0 @@
-use Rattle.findings.proofs.Draining.{NoneDrains}
-use Rattle.findings.proofs.conflicts.drains.Given as goal
-
-abbrev pub invariant-loop-number : goal.invariant-loop-number
-invariant-loop-number l = NoneDrains l.state.table l.unit l.number

@@ -1,9 +1,0 @@
-use Rattle.findings.proofs.Common.{◌-◌, ◌+◌, ◌≤◌}
-use Rattle.findings.proofs.Alike.{NoTwin}
-use Rattle.findings.proofs.twins.has_twin.Given as goal
-
-abbrev pub invariant-loop-other : goal.invariant-loop-other
-invariant-loop-other l = NoTwin l.state.table l.number l.row.entry.user_data l.from × (l.number ≤ l.from + 32)
-
-abbrev pub decreases-loop-other : goal.decreases-loop-other
-decreases-loop-other l = 65536 - l.from

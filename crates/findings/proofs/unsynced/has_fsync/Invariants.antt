@@ -1,6 +1,0 @@
-use Rattle.findings.proofs.Common.{syncs}
-use Rattle.findings.proofs.Looking.{NonePasses}
-use Rattle.findings.proofs.unsynced.has_fsync.Given as goal
-
-abbrev pub invariant-loop-number : goal.invariant-loop-number
-invariant-loop-number l = NonePasses (syncs l.setup l.object) l.state.table l.number

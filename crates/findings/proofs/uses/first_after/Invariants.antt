@@ -1,6 +1,0 @@
-use Rattle.findings.proofs.Common.{drop, sub_list, is_sought}
-use Rattle.findings.proofs.Looking.{NonePasses}
-use Rattle.findings.proofs.uses.first_after.Given as goal
-
-abbrev pub invariant-loop-place : goal.invariant-loop-place
-invariant-loop-place l = NonePasses (is_sought l.ring.slots l.sought) (drop l.passed (sub_list l.ring)) l.place
