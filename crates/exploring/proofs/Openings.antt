@@ -43,54 +43,54 @@ linked_nothing m n es rs e l = linked_none m n rs (subst (λ (xs : List Event). 
 
 -- ---- openings
 
-no_opening : (s : Setup) (o : SampleOptions) → IsOpening s o []
-no_opening s o = record { chosen = λ seed number. tt; within = omega arith }
+no_opening : (s : Setup) (o : SampleOptions) → IsOpening s o [] 0
+no_opening s o = record { all = λ seed number. refl; within = omega arith }
 
 -- Any program's runs begin with no event.
-pub nothing_opens : (s : Setup) (o : SampleOptions) (es : List Event) → es ≡ [] → IsOpening s o es
-nothing_opens s o es e = subst (λ (xs : List Event). IsOpening s o xs) (sym e) (no_opening s o)
+pub nothing_opens : (s : Setup) (o : SampleOptions) (es : List Event) (row : ℕ) → es ≡ [] → row ≡ 0 → IsOpening s o es row
+nothing_opens s o es row e z = rw (e, z) (no_opening s o)
 
 seen_none : (x : Option Search) (P : Search → Type 0) → x ≡ None → IfSome x P
 seen_none x P e = subst (λ (y : Option Search). IfSome y P) (sym e) tt
 
 -- A worker at the start.
-pub starts_ready : (r : RandomRuns) (w : Worker) → CanRun r → Linked (start r.setup.now) w.sample.events.items w.sample.records.items w.state → w.opening ≡ 0 → w.search ≡ None → IsReady r w
-starts_ready r w runs l opening search = record {
+pub starts_ready : (r : RandomRuns) (w : Worker) → CanRun r → Linked (start r.setup.now) w.sample.events.items w.sample.records.items w.state → w.opening ≡ 0 → w.opening_row ≡ 0 → w.search ≡ None → IsReady r w
+starts_ready r w runs l opening row search = record {
   runs = runs;
   linked = l;
   within = omega (arith, opening);
-  opening = nothing_opens r.setup.now r.options (take w.opening w.sample.events.items) (ap (λ (k : ℕ). take k w.sample.events.items) opening);
+  opening = nothing_opens r.setup.now r.options (take w.opening w.sample.events.items) w.opening_row (ap (λ (k : ℕ). take k w.sample.events.items) opening) row;
   seen = seen_none w.search _ search;
 }
 
-pub first_ready : (r : RandomRuns) (w : Worker) → CanRun r → w.state ≡ start r.setup.now → w.sample.events.items ≡ [] → w.sample.records.items ≡ [] → w.opening ≡ 0 → w.search ≡ None → IsReady r w
-first_ready r w runs state events records opening search = starts_ready r w runs (rw (events, records) state) opening search
+pub first_ready : (r : RandomRuns) (w : Worker) → CanRun r → w.state ≡ start r.setup.now → w.sample.events.items ≡ [] → w.sample.records.items ≡ [] → w.opening ≡ 0 → w.opening_row ≡ 0 → w.search ≡ None → IsReady r w
+first_ready r w runs state events records opening row search = starts_ready r w runs (rw (events, records) state) opening row search
 
-pub starts_opened : (r : RandomRuns) (w : Worker) → CanRun r → w.sample.events.items ≡ [] → Linked (start r.setup.now) w.sample.events.items w.sample.records.items w.state → w.opening ≡ 0 → w.search ≡ None → IsOpened r w
-starts_opened r w runs events l opening search = record {
-  ready = starts_ready r w runs l opening search;
-  whole = nothing_opens r.setup.now r.options w.sample.events.items events;
+pub starts_opened : (r : RandomRuns) (w : Worker) → CanRun r → w.sample.events.items ≡ [] → Linked (start r.setup.now) w.sample.events.items w.sample.records.items w.state → w.opening ≡ 0 → w.opening_row ≡ 0 → w.sample.next_row ≡ 0 → w.search ≡ None → IsOpened r w
+starts_opened r w runs events l opening row next search = record {
+  ready = starts_ready r w runs l opening row search;
+  whole = nothing_opens r.setup.now r.options w.sample.events.items w.sample.next_row events next;
 }
 
 -- ---- longer and shorter runs
 
 -- A worker whose run begins as another's does, at least for the opening.
-ready_as : (r : RandomRuns) (w v : Worker) → IsReady r w → take v.opening v.sample.events.items ≡ take w.opening w.sample.events.items → v.opening ≤ length v.sample.events.items → v.opening ≡ w.opening → v.search ≡ w.search
+ready_as : (r : RandomRuns) (w v : Worker) → IsReady r w → take v.opening v.sample.events.items ≡ take w.opening w.sample.events.items → v.opening ≤ length v.sample.events.items → v.opening ≡ w.opening → v.opening_row ≡ w.opening_row → v.search ≡ w.search
     → Linked (start r.setup.now) v.sample.events.items v.sample.records.items v.state → IsReady r v
-ready_as r w v h same within opening search l = record {
+ready_as r w v h same within opening row search l = record {
   runs = h.runs;
   linked = l;
   within = within;
-  opening = subst (λ (xs : List Event). IsOpening r.setup.now r.options xs) (sym same) h.opening;
+  opening = rw (same, row) h.opening;
   seen = rw (search, same, opening) h.seen;
 }
 
 -- A worker that made its run once more.
-pub ready_at : (r : RandomRuns) (w v : Worker) → IsReady r w → v.sample.events.items ≡ w.sample.events.items → v.sample.records.items ≡ w.sample.records.items → v.opening ≡ w.opening → v.search ≡ w.search
+pub ready_at : (r : RandomRuns) (w v : Worker) → IsReady r w → v.sample.events.items ≡ w.sample.events.items → v.sample.records.items ≡ w.sample.records.items → v.opening ≡ w.opening → v.opening_row ≡ w.opening_row → v.search ≡ w.search
     → IsAt r.setup.now w.sample.events.items (length w.sample.events.items) v.state → IsReady r v
-ready_at r w v h events records opening search at =
+ready_at r w v h events records opening row search at =
     let l = linked_again r.setup.now w.state v.state w.sample.events.items w.sample.records.items h.linked at in
-    ready_as r w v h (rw (events, opening) refl) (rw (events, opening) h.within) opening search (rw (events, records) l)
+    ready_as r w v h (rw (events, opening) refl) (rw (events, opening) h.within) opening row search (rw (events, records) l)
 
 take_twice : (n : ℕ) (es : List Event) → n ≤ length es → take n (take n es) ≡ take n es
 take_twice n es h = let count = length-take n es in take_all n (take n es) (omega (arith, count))
@@ -99,22 +99,22 @@ count_of : (n : ℕ) (es : List Event) → n ≤ length es → length (take n es
 count_of n es h = let count = length-take n es in omega (arith, count, h)
 
 -- The worker went back to the end of the opening.
-pub opened_again : (r : RandomRuns) (w v : Worker) → IsReady r w → v.sample.events.items ≡ take w.opening w.sample.events.items → v.opening ≡ w.opening → v.search ≡ w.search → Linked (start r.setup.now) v.sample.events.items v.sample.records.items v.state → IsOpened r v
-opened_again r w v h events opening search l =
+pub opened_again : (r : RandomRuns) (w v : Worker) → IsReady r w → v.sample.events.items ≡ take w.opening w.sample.events.items → v.opening ≡ w.opening → v.opening_row ≡ w.opening_row → v.sample.next_row ≡ w.opening_row → v.search ≡ w.search → Linked (start r.setup.now) v.sample.events.items v.sample.records.items v.state → IsOpened r v
+opened_again r w v h events opening row next search l =
     let same : take v.opening v.sample.events.items ≡ take w.opening w.sample.events.items = rw (events, opening) (take_twice w.opening w.sample.events.items h.within) in
     let count = ap (λ (xs : List Event). length xs) events ∙ count_of w.opening w.sample.events.items h.within in
     record {
-      ready = ready_as r w v h same (omega (arith, count, opening)) opening search l;
-      whole = subst (λ (xs : List Event). IsOpening r.setup.now r.options xs) (sym events) h.opening;
+      ready = ready_as r w v h same (omega (arith, count, opening)) opening row search l;
+      whole = rw (events, next) h.opening;
     }
 
 -- The run was continued.
-pub ready_more : (r : RandomRuns) (w v : Worker) → IsReady r w → IsBegin w.sample.events.items v.sample.events.items → v.opening ≡ w.opening → v.search ≡ w.search → Linked (start r.setup.now) v.sample.events.items v.sample.records.items v.state → IsReady r v
-ready_more r w v h begins opening search l =
+pub ready_more : (r : RandomRuns) (w v : Worker) → IsReady r w → IsBegin w.sample.events.items v.sample.events.items → v.opening ≡ w.opening → v.opening_row ≡ w.opening_row → v.search ≡ w.search → Linked (start r.setup.now) v.sample.events.items v.sample.records.items v.state → IsReady r v
+ready_more r w v h begins opening row search l =
     let same : take v.opening v.sample.events.items ≡ take w.opening w.sample.events.items = rw (begins.1, opening) (take-append-le w.opening w.sample.events.items begins.0 h.within) in
     let grown = ap (λ (xs : List Event). length xs) begins.1 ∙ length-append w.sample.events.items begins.0 in
     let within = h.within in
-    ready_as r w v h same (omega (arith, grown, opening, within)) opening search l
+    ready_as r w v h same (omega (arith, grown, opening, within)) opening row search l
 
 -- ---- searches
 
@@ -129,16 +129,16 @@ again_seen r w v x y h is events found numbers watches files =
     (ap (λ (xs : List Event). length xs) events ∙ count_of w.opening w.sample.events.items h.within) found numbers watches files
 
 -- A new opening, and a copy of the search that has seen it.
-pub newly_opened : (r : RandomRuns) (w : Worker) (x y : Search) → CanRun r → IsOpening r.setup.now r.options w.sample.events.items → Linked (start r.setup.now) w.sample.events.items w.sample.records.items w.state → w.opening ≡ length w.sample.events.items → w.search ≡ Some y
+pub newly_opened : (r : RandomRuns) (w : Worker) (x y : Search) → CanRun r → IsOpening r.setup.now r.options w.sample.events.items w.sample.next_row → Linked (start r.setup.now) w.sample.events.items w.sample.records.items w.state → w.opening ≡ length w.sample.events.items → w.opening_row ≡ w.sample.next_row → w.search ≡ Some y
     → HasSeen r w x → y.found.items ≡ x.found.items → y.numbers.items ≡ x.numbers.items → y.watches.items ≡ x.watches.items → IsCopy x.files y.files → IsOpened r w
-newly_opened r w x y runs whole l opening search seen found numbers watches files =
+newly_opened r w x y runs whole l opening row search seen found numbers watches files =
     let all : take w.opening w.sample.events.items ≡ w.sample.events.items = take_all w.opening w.sample.events.items (omega (arith, opening)) in
     record {
       ready = record {
         runs = runs;
         linked = l;
         within = omega (arith, opening);
-        opening = subst (λ (xs : List Event). IsOpening r.setup.now r.options xs) (sym all) whole;
+        opening = rw (all, row) whole;
         seen = rw search (copy_seen r.setup.now w.sample.events.items (take w.opening w.sample.events.items) (length w.sample.events.items) w.opening x y seen all opening found numbers watches files);
       };
       whole = whole;

@@ -9,11 +9,11 @@ use Rattle.symptoms.specs.declared.symptom.Sighting.{Sighting}
 use Rattle.symptoms.specs.Symptoms.{Shows}
 use Rattle.std.specs.List.{All}
 use Rattle.std.proofs.lemmas.List.Elements.{All-append}
-use Rattle.exploring.specs.declared.lanes.Lane.{Lane}
+use Rattle.search_rounds.specs.declared.lanes.Lane.{Lane}
 use Rattle.exploring.specs.declared.random_runs.Worker.{Worker}
 use Rattle.exploring.specs.declared.random_runs.RandomRuns.{RandomRuns}
 use Rattle.exploring.specs.RandomRuns.{RunShows, IsRun, IsReady}
-use Rattle.exploring.specs.Trials.{IsLeast}
+use Rattle.search_rounds.specs.Trials.{IsLeast}
 
 -- A run shows the symptom if it has a sighting.
 pub shown_if_sighted : (r : RandomRuns) (n : ℕ) (es : List Event) (x : Option Sighting) (fs : List Finding) → IsRun r n es x fs → IsTrue (is_some x) ↔ RunShows r n

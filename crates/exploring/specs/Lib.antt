@@ -1,5 +1,1 @@
-pub mod Bounds
-pub mod Counting
 pub mod RandomRuns
-pub mod Rounds
-pub mod Trials

@@ -14,7 +14,7 @@ use Rattle.findings.specs.Searching.{HasSearched}
 use Rattle.sampling.specs.Samples.{IsSample, IsOpening}
 use Rattle.symptoms.specs.declared.symptom.Sighting.{Sighting}
 use Rattle.symptoms.specs.Symptoms.{Shows, IsFirst, AreConclusive}
-use Rattle.exploring.specs.declared.outcome.Outcome.{Outcome}
+use Rattle.search_rounds.specs.declared.outcome.Outcome.{Outcome}
 use Rattle.exploring.specs.declared.random_runs.RandomRuns.{RandomRuns}
 use Rattle.exploring.specs.declared.random_runs.Worker.{Worker}
 
@@ -70,13 +70,13 @@ pub record IsReady (r : RandomRuns) (w : Worker) : Type 0 where
   pub runs : CanRun r
   pub linked : Linked (start r.setup.now) w.sample.events.items w.sample.records.items w.state
   pub within : w.opening ≤ length w.sample.events.items
-  pub opening : IsOpening r.setup.now r.options (take w.opening w.sample.events.items)
+  pub opening : IsOpening r.setup.now r.options (take w.opening w.sample.events.items) w.opening_row
   pub seen : IfSome w.search (HasSearchedBy r.setup.now (take w.opening w.sample.events.items) w.opening)
 
 -- The worker is at the end of the opening.
 pub record IsOpened (r : RandomRuns) (w : Worker) : Type 0 where
   pub ready : IsReady r w
-  pub whole : IsOpening r.setup.now r.options w.sample.events.items
+  pub whole : IsOpening r.setup.now r.options w.sample.events.items w.sample.next_row
 
 -- A search has seen all events of the worker.
 abbrev pub HasSeen : RandomRuns → Worker → Search → Type 0

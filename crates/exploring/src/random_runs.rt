@@ -6,15 +6,13 @@ ghost use Rattle.runs.specs.Moments.{IsAt};
 ghost use Rattle.sampling.specs.Samples.{StaysSeen};
 ghost use Rattle.exploring.specs.RandomRuns.{SaysKinds, has_kind};
 
-use crate::experiment::Experiment;
-use crate::lanes::Lane;
-use crate::outcome::Outcome;
 use finding_kinds::{Finding, Kind};
 use findings::Search;
 use machine::State;
 use runs::Observer;
 use sampling::{Program, Sample, SampleOptions, begin, rewind, sample, undo};
 use scenario::Setup;
+use search_rounds::{Experiment, Lane, Outcome};
 use std::alloc::{AllocError, Global};
 use symptoms::{Examined, Symptom, examine, examined_by};
 
@@ -40,6 +38,8 @@ pub struct Worker {
     pub sample: Sample,
     // The number of the events with which each run begins.
     opening: usize,
+    // The first request of the last submission after them.
+    opening_row: u32,
     // A search that has seen these events, once there is one.
     search: Option<Search>,
 }
@@ -51,6 +51,7 @@ impl Drop for Worker {
             state: _,
             sample: _,
             opening: _,
+            opening_row: _,
             search: _,
         } = self;
     }
@@ -63,6 +64,7 @@ impl Worker {
         ensures events { IfOk result (λ worker. worker.sample.events.items ≡ []) }
         ensures records { IfOk result (λ worker. worker.sample.records.items ≡ []) }
         ensures opening { IfOk result (λ worker. worker.opening ≡ 0) }
+        ensures opening_row { IfOk result (λ worker. worker.opening_row ≡ 0) }
         ensures search { IfOk result (λ worker. worker.search ≡ None) }
     {
         match State::new(alloc, setup) {
@@ -70,6 +72,7 @@ impl Worker {
                 state,
                 sample: Sample::new(alloc),
                 opening: 0,
+                opening_row: 0,
                 search: None,
             }),
             Err(_) => Err(AllocError),
@@ -109,7 +112,7 @@ impl RandomRuns<'_> {
                 let events = &worker.sample.events;
                 examined_by(search, self.setup, events, &worker.state, wanted)
             }
-            Symptom::Reaches(_, _) => self.look(worker, number),
+            Symptom::Reaches(_) => self.look(worker, number),
         }
     }
 
@@ -142,8 +145,9 @@ impl RandomRuns<'_> {
         ensures none { worker.new.sample.events.items ≡ [] }
         ensures start { worker.new.state ≡ start self.now.setup.now }
     {
-        rewind(&mut worker.state, &mut worker.sample, 0);
+        rewind(&mut worker.state, &mut worker.sample, 0, 0);
         worker.opening = 0;
+        worker.opening_row = 0;
         worker.search = None;
     }
 
@@ -155,7 +159,8 @@ impl RandomRuns<'_> {
     {
         match &worker.search {
             Some(search) => {
-                rewind(&mut worker.state, &mut worker.sample, worker.opening);
+                let row = worker.opening_row;
+                rewind(&mut worker.state, &mut worker.sample, worker.opening, row);
                 let copy = search.copy(self.alloc)?;
                 Ok(copy)
             }
@@ -179,6 +184,7 @@ impl RandomRuns<'_> {
             &mut search,
         )?;
         worker.opening = worker.sample.events.len();
+        worker.opening_row = worker.sample.next_row;
         worker.search = Some(search.copy(self.alloc)?);
         Ok(search)
     }

@@ -8,4 +8,4 @@ pub make-requires-clause-stays : goal.make-requires-clause-stays
 make-requires-clause-stays c = λ o es more most h. tt
 
 pub returns-in-Ok-clause-ready : goal.returns-in-Ok-clause-ready
-returns-in-Ok-clause-ready c = ready_at c.args.self.now c.make.new.worker _ c.in_ok-make.ensures.ready refl refl refl refl (subst (λ (es : List Event). IsAt c.args.self.now.setup.now es (length es) c.examine.new.state) c.deref.ensures.value c.in-Ok.ensures.at)
+returns-in-Ok-clause-ready c = ready_at c.args.self.now c.make.new.worker _ c.in_ok-make.ensures.ready refl refl refl refl refl (subst (λ (es : List Event). IsAt c.args.self.now.setup.now es (length es) c.examine.new.state) c.deref.ensures.value c.in-Ok.ensures.at)

@@ -15,7 +15,7 @@ pub sample-requires-clause-seen : goal.sample-requires-clause-seen
 sample-requires-clause-seen g c = rw c.requires.opened.ready.runs.program c.requires.seen
 
 pub returns-clause-ready : goal.returns-clause-ready
-returns-clause-ready g c = ready_more c.args.self.now c.args.worker.now _ c.requires.opened.ready c.in_ok-sample.ensures.begins refl refl (rw c.requires.opened.ready.runs.program at c.sample.ensures.linked)
+returns-clause-ready g c = ready_more c.args.self.now c.args.worker.now _ c.requires.opened.ready c.in_ok-sample.ensures.begins refl refl refl (rw c.requires.opened.ready.runs.program at c.sample.ensures.linked)
 
 pub returns-clause-events : goal.returns-clause-events
 returns-clause-events g c = rw c.requires.opened.ready.runs.program at c.in_ok-sample.ensures.sample

@@ -19,7 +19,7 @@ pub returns-clause-opening : goal.returns-clause-opening
 returns-clause-opening c =
     let e = c.in_ok-copy.ensures in
     let count : c.len-worker.result ≡ length c.begin.new.into.events.items = search rules in
-    newly_opened c.args.self.now _ c.begin.new.observer _ c.requires.runs (rw c.requires.runs.program at c.in_ok-begin.ensures.opening) (rw c.requires.runs.program at c.begin.ensures.linked) count refl
+    newly_opened c.args.self.now _ c.begin.new.observer _ c.requires.runs (rw c.requires.runs.program at c.in_ok-begin.ensures.opening) (rw c.requires.runs.program at c.begin.ensures.linked) count refl refl
     (rw c.requires.runs.program at c.in_ok-begin.ensures.seen) e.found e.numbers e.watches e.files
 
 pub returns-clause-seen : goal.returns-clause-seen

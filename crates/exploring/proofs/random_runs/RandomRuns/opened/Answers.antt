@@ -10,7 +10,7 @@ rewind-requires-clause-records c =
     omega (arith, same, c.requires.within)
 
 pub returns-in_ok-copy-in-Some-clause-opening : goal.returns-in_ok-copy-in-Some-clause-opening
-returns-in_ok-copy-in-Some-clause-opening c = opened_again c.args.self.now c.args.worker.now _ c.requires c.rewind.ensures.events refl refl (c.rewind.ensures.linked _ c.requires.linked)
+returns-in_ok-copy-in-Some-clause-opening c = opened_again c.args.self.now c.args.worker.now _ c.requires c.rewind.ensures.events refl refl c.rewind.ensures.next_row refl (c.rewind.ensures.linked _ c.requires.linked)
 
 pub returns-in_ok-copy-in-Some-clause-seen : goal.returns-in_ok-copy-in-Some-clause-seen
 returns-in_ok-copy-in-Some-clause-seen c =

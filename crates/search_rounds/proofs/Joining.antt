@@ -6,12 +6,12 @@ use Rattle.std.proofs.lemmas.Option.{none-some}
 use Rattle.std.specs.Int.{bit_at}
 use Rattle.std.proofs.lemmas.List.{length-append}
 use Rattle.std.proofs.lemmas.List.Sums.{sum_by-append}
-use Rattle.exploring.specs.declared.outcome.Outcome.{Outcome}
-use Rattle.exploring.specs.declared.outcome.Totals.{Totals}
-use Rattle.exploring.specs.Counting.{Adds, IsSum, Counts}
-use Rattle.exploring.specs.Trials.{IsOutcome, Trials, IsQuiet, IsFirst, Reports, NoneShows, IsLeast}
-use Rattle.exploring.specs.Rounds.{part_start, HasRun}
-use Rattle.exploring.specs.declared.lanes.Lane.{Lane}
+use Rattle.search_rounds.specs.declared.outcome.Outcome.{Outcome}
+use Rattle.search_rounds.specs.declared.outcome.Totals.{Totals}
+use Rattle.search_rounds.specs.Counting.{Adds, IsSum, Counts}
+use Rattle.search_rounds.specs.Trials.{IsOutcome, Trials, IsQuiet, IsFirst, Reports, NoneShows, IsLeast}
+use Rattle.search_rounds.specs.Rounds.{part_start, HasRun}
+use Rattle.search_rounds.specs.declared.lanes.Lane.{Lane}
 use Rattle.std.specs.declared.alloc.AllocError.{AllocError}
 use Rattle.std.specs.Prelude.{Result, Ok, OnOk, IfOk, slice_index_or}
 use Rattle.std.proofs.lemmas.List.{get_or_read}

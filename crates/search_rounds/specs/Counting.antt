@@ -1,8 +1,8 @@
 -- Totals over runs.
 use Rattle.std.specs.Prelude.{◌≡◌, ℕ, ◌+◌, ◌<◌, List, length, slice_index, sum_by}
 use Rattle.std.specs.Int.{bit_at}
-use Rattle.exploring.specs.declared.outcome.Outcome.{Outcome}
-use Rattle.exploring.specs.declared.outcome.Totals.{Totals}
+use Rattle.search_rounds.specs.declared.outcome.Outcome.{Outcome}
+use Rattle.search_rounds.specs.declared.outcome.Totals.{Totals}
 
 -- one run more
 pub record Adds (old : Totals) (o : Outcome) (new : Totals) : Type 0 where

@@ -1,7 +1,7 @@
 //! What a run showed, and totals over runs.
 ghost use Rattle.std.specs.Prelude.{◌≡◌, ℕ, ◌+◌, ◌<◌, ◌≤◌, ◌^◌, slice_index, length};
 ghost use Rattle.std.specs.Int.{bit_at};
-ghost use Rattle.exploring.specs.Bounds.{IsBounded};
+ghost use Rattle.search_rounds.specs.Bounds.{IsBounded};
 
 /// What one run showed.
 #[derive(Clone, Copy, PartialEq, Eq)]
@@ -25,7 +25,7 @@ pub struct Totals {
 
 impl Totals {
     ghost use Rattle.std.specs.Prelude.{[]};
-    ghost use Rattle.exploring.specs.Counting.{Adds, IsSum, Counts};
+    ghost use Rattle.search_rounds.specs.Counting.{Adds, IsSum, Counts};
 
     /// Returns the totals of no run.
     pub fn new() -> Totals

@@ -1,7 +1,7 @@
 use Rattle.std.proofs.Common.{arith}
-use Rattle.exploring.proofs.Joining.{found_at, quiet_of, lanes_join, lane_reports, each_more}
-use Rattle.exploring.specs.Trials.{IsOutcome}
-use Rattle.exploring.proofs.search.explore_round.Goals as goal
+use Rattle.search_rounds.proofs.Joining.{found_at, quiet_of, lanes_join, lane_reports, each_more}
+use Rattle.search_rounds.specs.Trials.{IsOutcome}
+use Rattle.search_rounds.proofs.search.explore_round.Goals as goal
 
 pub returns-in-Some-clause-reports : goal.returns-in-Some-clause-reports
 returns-in-Some-clause-reports g c =

@@ -1,6 +1,6 @@
 //! Numbered runs, some of which show what is searched for.
 ghost use Rattle.std.specs.Prelude.{◌↔◌, ℕ, IsTrue, OnOk, IfOk};
-ghost use Rattle.exploring.specs.declared.outcome.Outcome.{Outcome};
+ghost use Rattle.search_rounds.specs.declared.outcome.Outcome.{Outcome};
 
 use crate::outcome::Outcome;
 use std::alloc::AllocError;

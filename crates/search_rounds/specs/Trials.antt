@@ -1,8 +1,8 @@
 -- Runs in order of their numbers, up to the first that shows what is searched for.
 use Rattle.std.specs.Prelude.{◌≡◌, ℕ, ◌+◌, ◌<◌, ◌≤◌, ◌↔◌, ◌++◌, true, false, IsTrue, Option, Some, None, List, [], ◌∷◌, length}
-use Rattle.exploring.specs.declared.outcome.Outcome.{Outcome}
-use Rattle.exploring.specs.declared.outcome.Totals.{Totals}
-use Rattle.exploring.specs.Counting.{Counts}
+use Rattle.search_rounds.specs.declared.outcome.Outcome.{Outcome}
+use Rattle.search_rounds.specs.declared.outcome.Totals.{Totals}
+use Rattle.search_rounds.specs.Counting.{Counts}
 
 -- An outcome is that of run `n`: it says whether the run shows what is searched for.
 pub record IsOutcome (shows : ℕ → Type 0) (gives : ℕ → Outcome → Type 0) (n : ℕ) (o : Outcome) : Type 0 where

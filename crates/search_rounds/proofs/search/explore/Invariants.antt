@@ -1,6 +1,6 @@
 use Rattle.std.proofs.Common.{◌≤◌, ◌+◌, ◌-◌, All}
-use Rattle.exploring.specs.Trials.{IsOutcome, IsQuiet}
-use Rattle.exploring.proofs.search.explore.Given as goal
+use Rattle.search_rounds.specs.Trials.{IsOutcome, IsQuiet}
+use Rattle.search_rounds.proofs.search.explore.Given as goal
 
 abbrev pub invariant-loop-next : goal.invariant-loop-next
 invariant-loop-next g l = record {

@@ -1,8 +1,8 @@
 use Rattle.std.proofs.Common.{arith, rules, of_calls}
 use Rattle.std.specs.Prelude.{Some}
-use Rattle.exploring.proofs.Joining.{found_at, quiet_of, reports-join, least_of, quiet_least}
-use Rattle.exploring.specs.Trials.{IsOutcome}
-use Rattle.exploring.proofs.search.explore.Goals as goal
+use Rattle.search_rounds.proofs.Joining.{found_at, quiet_of, reports-join, least_of, quiet_least}
+use Rattle.search_rounds.specs.Trials.{IsOutcome}
+use Rattle.search_rounds.proofs.search.explore.Goals as goal
 
 pub returns-in-Some-clause-totals : goal.returns-in-Some-clause-totals
 returns-in-Some-clause-totals g c =

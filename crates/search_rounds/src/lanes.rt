@@ -1,7 +1,7 @@
 //! The runs of one worker in a round.
 ghost use Rattle.std.specs.Prelude.{◌≡◌, ◌≤◌, ◌^◌, [], OnOk, IfOk};
-ghost use Rattle.exploring.specs.Counting.{Counts};
-ghost use Rattle.exploring.specs.Trials.{IsOutcome, Reports};
+ghost use Rattle.search_rounds.specs.Counting.{Counts};
+ghost use Rattle.search_rounds.specs.Trials.{IsOutcome, Reports};
 
 use crate::experiment::Experiment;
 use crate::outcome::Totals;

@@ -1,5 +1,5 @@
 use Rattle.std.proofs.Common.{◌≡◌, ℕ, ◌+◌, ◌<◌, ◌≤◌, slice_index}
-use Rattle.exploring.proofs.outcome.add_kinds.Given as goal
+use Rattle.search_rounds.proofs.outcome.add_kinds.Given as goal
 
 pub record IsAdded (first now more : ℕ → ℕ) (n : ℕ) : Type 0 where
   pub added : (k : ℕ) → k < n → now k ≡ first k + more k

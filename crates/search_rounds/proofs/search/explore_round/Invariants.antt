@@ -1,8 +1,8 @@
 use Rattle.std.proofs.Common.{ℕ, ◌<◌}
 use Rattle.std.specs.Prelude.{slice_index_or}
-use Rattle.exploring.specs.Rounds.{part_start}
-use Rattle.exploring.specs.Trials.{IsOutcome, IsQuiet}
-use Rattle.exploring.proofs.search.explore_round.Given as goal
+use Rattle.search_rounds.specs.Rounds.{part_start}
+use Rattle.search_rounds.specs.Trials.{IsOutcome, IsQuiet}
+use Rattle.search_rounds.proofs.search.explore_round.Given as goal
 
 abbrev pub invariant-loop-lane : goal.invariant-loop-lane
 invariant-loop-lane g l = record {

@@ -1,6 +1,6 @@
 use Rattle.std.proofs.Common.{◌≡◌, ℕ, ◌+◌, ◌<◌, ◌≤◌, slice_index}
 use Rattle.std.specs.Int.{bit_at}
-use Rattle.exploring.proofs.outcome.count_kinds.Given as goal
+use Rattle.search_rounds.proofs.outcome.count_kinds.Given as goal
 
 pub record IsCounted (first now : ℕ → ℕ) (shown n : ℕ) : Type 0 where
   pub counted : (k : ℕ) → k < n → now k ≡ first k + bit_at shown k

@@ -1,5 +1,5 @@
-use Rattle.exploring.proofs.Joining.{quiet_more}
-use Rattle.exploring.proofs.lanes.first_shown.Goals as goal
+use Rattle.search_rounds.proofs.Joining.{quiet_more}
+use Rattle.search_rounds.proofs.lanes.first_shown.Goals as goal
 
 pub loop-number-preserved : goal.loop-number-preserved
 loop-number-preserved g c = record {

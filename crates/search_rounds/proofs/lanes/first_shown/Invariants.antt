@@ -1,5 +1,5 @@
-use Rattle.exploring.specs.Trials.{IsOutcome, IsQuiet}
-use Rattle.exploring.proofs.lanes.first_shown.Given as goal
+use Rattle.search_rounds.specs.Trials.{IsOutcome, IsQuiet}
+use Rattle.search_rounds.proofs.lanes.first_shown.Given as goal
 
 abbrev pub invariant-loop-number : goal.invariant-loop-number
 invariant-loop-number g l = record {

@@ -1,8 +1,8 @@
 -- Rounds: each worker has a part of the numbers.
 use Rattle.std.specs.Prelude.{ℕ, ◌+◌, ◌*◌, min, IfOk, OnOk}
-use Rattle.exploring.specs.declared.outcome.Outcome.{Outcome}
-use Rattle.exploring.specs.declared.lanes.Lane.{Lane}
-use Rattle.exploring.specs.Trials.{Reports}
+use Rattle.search_rounds.specs.declared.outcome.Outcome.{Outcome}
+use Rattle.search_rounds.specs.declared.lanes.Lane.{Lane}
+use Rattle.search_rounds.specs.Trials.{Reports}
 
 -- Where the part of a worker begins: each has 64 numbers, and the last ends at `until`.
 abbrev pub part_start : ℕ → ℕ → ℕ → ℕ

@@ -1,9 +1,9 @@
 //! A search by several threads, in rounds.
 ghost use Rattle.std.specs.Prelude.{◌≡◌, ℕ, ◌+◌, ◌*◌, ◌<◌, ◌≤◌, ◌^◌, None, All, OnOk, IfOk, length, slice_index_or};
-ghost use Rattle.exploring.specs.declared.lanes.Lane.{Lane};
-ghost use Rattle.exploring.specs.Counting.{IsSum};
-ghost use Rattle.exploring.specs.Rounds.{part_start, HasRun};
-ghost use Rattle.exploring.specs.Trials.{IsOutcome, Reports, IsLeast};
+ghost use Rattle.search_rounds.specs.declared.lanes.Lane.{Lane};
+ghost use Rattle.search_rounds.specs.Counting.{IsSum};
+ghost use Rattle.search_rounds.specs.Rounds.{part_start, HasRun};
+ghost use Rattle.search_rounds.specs.Trials.{IsOutcome, Reports, IsLeast};
 
 use crate::experiment::Experiment;
 use crate::lanes::{Lane, run_lane};

@@ -1,0 +1,4 @@
+pub mod Bounds
+pub mod Counting
+pub mod Rounds
+pub mod Trials
