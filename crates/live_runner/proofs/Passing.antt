@@ -1,14 +1,15 @@
 -- The turns of an actor, and what its gate did at each.
-use Rattle.std.proofs.Common.{◌≡◌, ◌⊎◌, inl, inr, ℕ, ◌+◌, ◌<◌, ◌≤◌, Bool, true, false, List, [], ◌∷◌, length, length-append, slice_get, Option, Some, None, option_map, refl, sym, ◌∙◌, ap, subst, arith}
+use Rattle.std.proofs.Common.{◌≡◌, inl, inr, ℕ, ◌+◌, ◌<◌, ◌≤◌, Bool, true, false, List, [], ◌∷◌, length, length-append, slice_get, Some, option_map, refl, sym, ◌∙◌, ap, subst, arith}
 use Rattle.std.specs.Prelude.{All, Result, Ok, Err, IfOk}
 use Rattle.std.proofs.lemmas.Bool.{true≢false}
 use Rattle.std.proofs.lemmas.List.Elements.{All-get_or}
 use Rattle.std.proofs.lemmas.Option.{slice_get-map, slice_get_cases, same_Some, none-some}
 use Rattle.std.proofs.Math.Nat.{eq-or-lt_of_le}
+use Rattle.live_states.specs.declared.receipt.Receipt.{Receipt}
+use Rattle.live_states.specs.History.{Held, History, Past, closed_of}
 use Rattle.live_runner.specs.declared.worker.Turn.{Turn}
 use Rattle.live_runner.specs.declared.worker.Turn.TheVariants.{Did, Idle, Refused, Stuck}
-use Rattle.live_runner.specs.declared.receipt.Receipt.{Receipt}
-use Rattle.live_runner.specs.History.{Held, History, Past, WorkerState, WorkInOrder, all_receipts, closed_of}
+use Rattle.live_runner.specs.History.{WorkerState, WorkInOrder, all_receipts}
 use Rattle.live_runner.specs.Turns.{seat_after, HasPassed, HasWorked, AllPassed}
 
 -- A turn makes at most one event.

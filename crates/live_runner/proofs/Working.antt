@@ -3,8 +3,9 @@ use Rattle.std.proofs.Common.{◌≡◌, ℕ, List, [], ◌∷◌, ◌++◌, map
 use Rattle.std.specs.Prelude.{All}
 use Rattle.std.specs.declared.thread.PromisedHandle.{PromisedHandle}
 use Rattle.std.proofs.lemmas.List.Elements.{All-head, All-push, All-rest, All-same}
+use Rattle.live_states.specs.History.{Held}
 use Rattle.live_runner.specs.declared.running.ForActor.{ForActor}
-use Rattle.live_runner.specs.History.{Held, WorkerState, fresh}
+use Rattle.live_runner.specs.History.{WorkerState, fresh}
 use Rattle.live_runner.specs.Running.{IsOfTurns, AllOfTurns}
 
 module _ {G : Type 0} (g : G) where

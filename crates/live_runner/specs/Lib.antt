@@ -1,8 +1,8 @@
-pub mod Received
 pub mod History
-pub mod Attempts
 pub mod Turns
-pub mod Numbers
 pub mod Running
-pub mod Receipts
 pub use Rattle.live_rules.specs.Actors
+pub use Rattle.live_states.specs.Attempts
+pub use Rattle.live_states.specs.Numbers
+pub use Rattle.live_states.specs.Receipts
+pub use Rattle.live_states.specs.Received

@@ -1,9 +1,10 @@
 -- The effect of one turn, and of all turns of a worker, of an actor and of a closed run.
 use Rattle.std.specs.Prelude.{◌≡◌, ◌<◌, ◌≤◌, ◌+◌, ℕ, Bool, true, false, List, length, slice_get, Some}
+use Rattle.live_states.specs.declared.receipt.Receipt.{Receipt}
+use Rattle.live_states.specs.History.{Held, Past, seat_with}
 use Rattle.live_runner.specs.declared.worker.Turn.{Turn}
 use Rattle.live_runner.specs.declared.worker.Turn.TheVariants.{Did, Idle, Refused, Stuck}
-use Rattle.live_runner.specs.declared.receipt.Receipt.{Receipt}
-use Rattle.live_runner.specs.History.{Held, WorkerState, Past, seat_with}
+use Rattle.live_runner.specs.History.{WorkerState}
 
 -- The seat after a turn.
 abbrev pub seat_after : Held → Turn → Held

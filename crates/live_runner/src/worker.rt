@@ -1,11 +1,10 @@
 //! Workers, which take turns at the lock.
 ghost use Rattle.std.specs.Prelude.{◌≡◌, ◌≢◌, ◌↔◌, ◌≤◌, ◌+◌, ℕ, true, false, length, map, vec_len, vec_capacity};
-ghost use Rattle.live_runner.specs.History.{InOrder, WorkInOrder, fresh};
+ghost use Rattle.live_states.specs.History.{InOrder};
+ghost use Rattle.live_runner.specs.History.{WorkInOrder, fresh};
 ghost use Rattle.live_runner.specs.Turns.{seat_after};
 
-use crate::lives::{Live, LiveRefusal};
-use crate::receipt::Receipt;
-use crate::seat::Seat;
+use live_states::{Live, LiveRefusal, Receipt, Seat};
 use std::marker::Model;
 use std::sync::ledger::Ledger;
 use std::sync::{Mutex, Wait};

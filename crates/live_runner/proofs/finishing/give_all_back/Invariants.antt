@@ -1,4 +1,4 @@
-use Rattle.std.proofs.Common.{◌≡◌, ◌+◌, ◌++◌, ◌≤◌, length, vec_len, vec_capacity}
+use Rattle.std.proofs.Common.{◌≡◌, ◌+◌, ◌++◌, ◌≤◌, length}
 use Rattle.std.specs.Vec.Iter.{into_iter_items}
 use Rattle.live_runner.specs.History.{receipt_count, all_receipts}
 use Rattle.live_runner.proofs.finishing.give_all_back.Given as goal
@@ -6,7 +6,7 @@ use Rattle.live_runner.proofs.finishing.give_all_back.Given as goal
 abbrev pub invariant-loop-worker : goal.invariant-loop-worker
 invariant-loop-worker g l =
     let rest = into_iter_items l.worker-iterator in
-    (l.share.parts + length rest ≡ l.fn.share.parts + length l.fn.workers.items)
-    × (l.share.amount + receipt_count rest ≡ l.fn.share.amount + receipt_count l.fn.workers.items)
-    × (l.lists.items ++ all_receipts rest ≡ all_receipts l.fn.workers.items)
-    × (vec_len l.lists + length rest ≤ vec_capacity l.lists)
+    (l.closing.run ≡ l.fn.closing.run)
+    × (l.closing.amount + receipt_count rest ≡ l.fn.closing.amount + receipt_count l.fn.workers.items)
+    × (l.closing.lists ++ all_receipts rest ≡ all_receipts l.fn.workers.items)
+    × (length l.closing.lists + length rest ≤ l.fn.closing.run.actors)

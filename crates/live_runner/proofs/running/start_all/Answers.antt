@@ -1,6 +1,6 @@
 use Rattle.std.proofs.Common.{rules, ◌≡◌, ◌+◌, [], length, vec_len}
 use Rattle.std.proofs.lemmas.List.Elements.{All-push, All-rest}
-use Rattle.live_runner.specs.History.{Held}
+use Rattle.live_states.specs.History.{Held}
 use Rattle.live_runner.specs.Running.{IsOfTurns}
 use Rattle.live_runner.proofs.Numbering.{numbered_push}
 use Rattle.live_runner.proofs.running.start_all.Goals as goal

@@ -1,7 +1,7 @@
 use Rattle.std.proofs.Common.{◌≡◌, ℕ, ◌+◌, ◌<◌, ◌≤◌, [], length, slice_index_or, vec_len, vec_capacity}
 use Rattle.std.specs.Prelude.{All}
 use Rattle.std.specs.Vec.Iter.{into_iter_items}
-use Rattle.live_runner.specs.History.{Held}
+use Rattle.live_states.specs.History.{Held}
 use Rattle.live_runner.specs.Running.{HandlesInOrder, AllOfTurns}
 use Rattle.live_runner.proofs.running.start_all.Given as goal
 

@@ -1,6 +1,6 @@
-use Rattle.std.proofs.Common.{rules, arith, ◌≡◌, ◌≢◌, ℕ, ◌≤◌, ◌+◌, ◌∙◌, sym, ap, subst, length, true, false}
+use Rattle.std.proofs.Common.{rules, arith, ◌≡◌, ◌≢◌, ℕ, ◌≤◌, ◌+◌, ◌∙◌, sym, ap, subst, length}
 use Rattle.std.proofs.lemmas.Bool.{true≢false}
-use Rattle.live_runner.specs.History.{Held}
+use Rattle.live_states.specs.History.{Held}
 use Rattle.live_runner.specs.Turns.{seat_after}
 use Rattle.live_runner.specs.declared.worker.Turn.TheVariants.{Stuck}
 use Rattle.live_runner.proofs.Passing.{one_more, passed_next}

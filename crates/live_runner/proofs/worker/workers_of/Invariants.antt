@@ -1,6 +1,7 @@
 use Rattle.std.proofs.Common.{◌≡◌, ℕ, ◌+◌, ◌++◌, ◌<◌, ◌≤◌, length, map, slice_index_or, vec_len, vec_capacity}
 use Rattle.std.specs.Vec.Iter.{into_iter_items}
-use Rattle.live_runner.specs.History.{Held, WorkInOrder, fresh}
+use Rattle.live_states.specs.History.{Held}
+use Rattle.live_runner.specs.History.{WorkInOrder, fresh}
 use Rattle.live_runner.proofs.worker.workers_of.Given as goal
 
 abbrev pub invariant-loop-seat : goal.invariant-loop-seat

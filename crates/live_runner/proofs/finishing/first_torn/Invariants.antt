@@ -1,6 +1,0 @@
-use Rattle.std.proofs.Common.{◌≡◌, ℕ, ◌<◌, Some, slice_get}
-use Rattle.live_runner.specs.Received.{receipts_of}
-use Rattle.live_runner.proofs.finishing.first_torn.Given as goal
-
-abbrev pub invariant-loop-actor : goal.invariant-loop-actor
-invariant-loop-actor l = (k : ℕ) → k < l.actor → slice_get l.lists k ≡ Some (receipts_of k l.owners l.events)

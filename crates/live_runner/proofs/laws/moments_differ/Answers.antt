@@ -1,5 +1,0 @@
-use Rattle.live_runner.proofs.Rising.{all_differ}
-use Rattle.live_runner.proofs.laws.moments_differ.Goals as goal
-
-pub returns : goal.returns
-returns c = all_differ

@@ -1,5 +1,0 @@
-use Rattle.live_runner.proofs.Rising.{all_rise}
-use Rattle.live_runner.proofs.laws.moments_rise.Goals as goal
-
-pub returns : goal.returns
-returns c = all_rise

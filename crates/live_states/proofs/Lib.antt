@@ -1,0 +1,3 @@
+pub mod AppendingLemmas
+pub mod ReceiptLemmas
+pub mod Rising
