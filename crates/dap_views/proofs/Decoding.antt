@@ -6,10 +6,10 @@ use Rattle.std.proofs.lemmas.Bool.Decides.{nat_tests}
 use Rattle.scenario.specs.declared.setup.Setup.{Setup}
 use Rattle.stops.specs.declared.steps.EditorThread.{EditorThread}
 use Rattle.stops.specs.declared.steps.EditorThread.TheVariants as thread
-use Rattle.dap_views.specs.Containers.{container_at, container_of, containers, kind_of, number_of, reference_of}
+use Rattle.dap_variables.specs.Containers.{container_at, container_of, containers, kind_of, number_of, reference_of}
 use Rattle.dap_views.specs.Threads.{HasThread, thread_id, thread_of}
-use Rattle.dap_views.specs.declared.container.Container.{Container}
-use Rattle.dap_views.specs.declared.container.Container.TheVariants.{Thread, Rings, Requests, Objects, Memory, Changes, Findings, Array, Entries, Completions, Backlog, Request, Object, Descriptor, File, Durable, Pipe}
+use Rattle.dap_variables.specs.declared.container.Container.{Container}
+use Rattle.dap_variables.specs.declared.container.Container.TheVariants.{Thread, Rings, Requests, Objects, Memory, Changes, Findings, Array, Entries, Completions, Backlog, Request, Object, Descriptor, File, Durable, Pipe}
 
 -- ---- Containers
 

@@ -14,8 +14,8 @@ use Rattle.run_log.specs.Lines.{value_shown}
 use Rattle.debug_server.specs.Replies.{Answer, reply, reply_to, shown_text}
 use Rattle.debug_server.specs.SessionStates.{SessionState}
 use Rattle.dap_views.specs.Evaluations.{evaluation, moment_variable, place_named, shown_place}
-use Rattle.dap_views.specs.Variables.{place_variable}
-use Rattle.dap_views.specs.declared.variable.Variable.{Variable}
+use Rattle.dap_variables.specs.Variables.{place_variable}
+use Rattle.dap_variables.specs.declared.variable.Variable.{Variable}
 
 -- `show` prints a value and a line feed.
 shown : (o : Option Value) → shown_text o ≡ value_shown o ++ codes "\n"

@@ -13,14 +13,14 @@ use Rattle.serde_json.specs.View.{items_of}
 use Rattle.source_map.specs.declared.cursor.Position.{Position}
 use Rattle.stops.specs.declared.steps.EditorThread.{EditorThread}
 use Rattle.dap_messages.specs.declared.request.InitializeArguments.{InitializeArguments}
-use Rattle.dap_views.specs.Children.{count_of}
-use Rattle.dap_views.specs.Containers.{reference_of}
+use Rattle.dap_variables.specs.Children.{count_of}
+use Rattle.dap_variables.specs.Containers.{reference_of}
 use Rattle.dap_views.specs.Scopes.{is_expensive, scope_name, scopes}
 use Rattle.dap_views.specs.Threads.{thread_id, thread_name, threads}
-use Rattle.dap_views.specs.declared.container.Container.{Container}
+use Rattle.dap_variables.specs.declared.container.Container.{Container}
 use Rattle.dap_views.specs.declared.frames.Frame.{Frame}
 use Rattle.dap_views.specs.declared.frames.SourceRange.{SourceRange}
-use Rattle.dap_views.specs.declared.variable.Variable.{Variable}
+use Rattle.dap_variables.specs.declared.variable.Variable.{Variable}
 
 -- ---- Members
 

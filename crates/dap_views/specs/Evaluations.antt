@@ -8,8 +8,8 @@ use Rattle.commands.specs.Commands.{command_of}
 use Rattle.commands.specs.declared.command.Command.{Command}
 use Rattle.commands.specs.declared.command.Command.TheVariants.{Show}
 use Rattle.commands.specs.declared.command.CommandFault.{CommandFault}
-use Rattle.dap_views.specs.Variables.{place_variable, plain_variable}
-use Rattle.dap_views.specs.declared.variable.Variable.{Variable}
+use Rattle.dap_variables.specs.Variables.{place_variable, plain_variable}
+use Rattle.dap_variables.specs.declared.variable.Variable.{Variable}
 
 -- The place that a `show` command names.
 abbrev pub shown_place : Result Command CommandFault → Option Place

@@ -107,6 +107,15 @@ event_frame w t m = record {
   range = event_range m (next_event w.events t w.at);
 }
 
+-- The frame of an instruction of a thread, at the position. Without a script it has no source.
+unfoldable pub frame_at : Walk → ℕ → ℕ → Option SourceMap → Frame
+frame_at w t i m = record {
+  thread = Thread t;
+  name = instruction_name w.setup t (Some i);
+  moment = w.at;
+  range = instruction_range m t (Some i) None;
+}
+
 -- The frame of a thread at the position: its next instruction, or the next event of the others.
 unfoldable pub frame_of : Walk → EditorThread → Option SourceMap → Frame
 frame_of w (Thread t) m = thread_frame w t m

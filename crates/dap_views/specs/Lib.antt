@@ -1,12 +1,5 @@
-pub mod Containers
 pub mod Threads
 pub mod Frames
 pub mod Scopes
-pub mod Requests
-pub mod Children
-pub mod Variables
-pub mod Pages
-pub mod Windows
 pub mod Evaluations
 pub mod Bodies
-pub mod Steps

@@ -1,8 +1,8 @@
 -- The scopes of a frame.
 use Rattle.std.specs.Prelude.{ℕ, List, [], ◌∷◌, codes, Bool, true, false}
 use Rattle.stops.specs.declared.steps.EditorThread.{EditorThread}
-use Rattle.dap_views.specs.declared.container.Container.{Container}
-use Rattle.dap_views.specs.declared.container.Container.TheVariants.{Thread, Rings, Requests, Objects, Memory, Changes, Findings}
+use Rattle.dap_variables.specs.declared.container.Container.{Container}
+use Rattle.dap_variables.specs.declared.container.Container.TheVariants.{Thread, Rings, Requests, Objects, Memory, Changes, Findings}
 
 -- The scopes of a thread's frame, in order.
 abbrev pub scopes : EditorThread → List Container

@@ -3,12 +3,10 @@ ghost use Rattle.std.specs.Prelude.{◌≡◌, IfOk, OnOk, map};
 ghost use Rattle.serde_json.specs.View.{members_view, view};
 ghost use Rattle.dap_views.specs.Bodies.{evaluate_body, is_byte, list_body, scope_data, scopes_body, thread_data, threads_body, variable_data, variables_body, with_children, with_expression, with_indexed, with_memory};
 
-use crate::container::{Container, reference_of};
-use crate::counts::count_of;
 use crate::editor_threads::{thread_id, thread_name, threads};
 use crate::json::{Members, put_list, put_member, put_number, put_text};
 use crate::scope::{is_expensive, scope_name, scopes};
-use crate::variable::Variable;
+use dap_variables::{Container, Variable, count_of, reference_of};
 use inverse_log::Walker;
 use machine::{Setup, State};
 use places::Place;

@@ -2,8 +2,8 @@
 ghost use Rattle.std.specs.Prelude.{◌≡◌, IfOk};
 ghost use Rattle.dap_views.specs.Evaluations.{evaluation, moment_variable, place_named};
 
-use crate::variable::{Variable, bytes_of, place_variable, plain_variable};
 use commands::{Command, parse_line};
+use dap_variables::{Variable, bytes_of, place_variable, plain_variable};
 use inverse_log::Walker;
 use machine::Setup;
 use places::{Items, Place};

@@ -5,9 +5,9 @@ ghost use Rattle.std.specs.Option.{option_copied};
 ghost use Rattle.places.specs.declared.place.Place.TheVariants.{ProgramCounter};
 ghost use Rattle.machine.specs.Whole.{view};
 ghost use Rattle.stops.specs.StopPoints.{is_event_of};
-ghost use Rattle.dap_views.specs.Frames.{event_name, event_range, frame_of, instruction_at, instruction_name, instruction_range, instruction_text, item_range, line_range, next_event, no_event, number_in};
+ghost use Rattle.dap_views.specs.Frames.{event_name, event_range, frame_at, frame_of, instruction_at, instruction_name, instruction_range, instruction_text, item_range, line_range, next_event, no_event, number_in};
 
-use crate::variable::bytes_of;
+use dap_variables::bytes_of;
 use inverse_log::Walker;
 use machine::{Event, Instruction, Setup, State};
 use places::{Items, Place, Value};
@@ -199,6 +199,26 @@ fn instruction_range(
         Some(map) => map.instruction(thread as usize, counter?).map(item_range),
         None => Some(line_range(event?)),
     }
+}
+
+/// Returns the frame of an instruction of a thread. Without a map it has no source.
+#[tactic(auto, unfolding(crate::specs::Frames::frame_at))]
+pub fn frame_at(
+    alloc: Global,
+    walker: &Walker,
+    thread: u32,
+    index: usize,
+    map: Option<&SourceMap>,
+) -> Result<Frame, AllocError>
+    ensures { IfOk result (λ frame. frame
+        ≡ frame_at walker.now thread index (option_map (λ m. m.now) map.entry)) }
+{
+    Ok(Frame {
+        thread: EditorThread::Thread(thread),
+        name: instruction_name(alloc, walker.setup(), thread, Some(index))?,
+        moment: walker.at(),
+        range: instruction_range(map, thread, Some(index), None),
+    })
 }
 
 /// Returns the frame of a thread. Without a map, the source has a line for each event.

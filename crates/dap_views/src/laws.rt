@@ -4,11 +4,11 @@ ghost use Rattle.scenario.specs.declared.setup.Setup.{Setup};
 ghost use Rattle.stops.specs.declared.steps.EditorThread.{EditorThread};
 ghost use Rattle.debug_server.specs.Replies.{Answer, reply};
 ghost use Rattle.debug_server.specs.SessionStates.{SessionState};
-ghost use Rattle.dap_views.specs.Containers.{container_of, number_of, reference_of};
+ghost use Rattle.dap_variables.specs.Containers.{container_of, number_of, reference_of};
 ghost use Rattle.dap_views.specs.Evaluations.{evaluation};
 ghost use Rattle.dap_views.specs.Threads.{HasThread, thread_id, thread_of};
-ghost use Rattle.dap_views.specs.declared.container.Container.{Container};
-ghost use Rattle.dap_views.specs.declared.variable.Variable.{Variable};
+ghost use Rattle.dap_variables.specs.declared.container.Container.{Container};
+ghost use Rattle.dap_variables.specs.declared.variable.Variable.{Variable};
 
 /// A container is read back from its reference.
 pub fn references_name_containers()

@@ -2,7 +2,7 @@
 ghost use Rattle.std.specs.Prelude.{◌≡◌};
 ghost use Rattle.dap_views.specs.Scopes.{is_expensive, scope_name, scopes};
 
-use crate::container::Container;
+use dap_variables::Container;
 use stops::EditorThread;
 
 /// Returns the scopes of a thread's frame, in order.

@@ -1,6 +1,6 @@
 use Rattle.std.proofs.Common.{ℕ, ◌∷◌, []}
 use Rattle.stops.specs.declared.steps.EditorThread.TheVariants.{Run, Thread}
-use Rattle.dap_views.proofs.Counted.{one_more}
+use Rattle.dap_variables.proofs.Counted.{one_more}
 use Rattle.dap_views.proofs.editor_threads.threads.Goals as goal
 
 pub loop-number-preserved : goal.loop-number-preserved

@@ -1,0 +1,4 @@
+pub mod Listed
+pub mod Pages
+pub mod Windows
+pub mod Steps

@@ -1,0 +1,4 @@
+pub mod Containers
+pub mod Requests
+pub mod Children
+pub mod Variables

@@ -1,9 +1,0 @@
-use Rattle.std.proofs.Common.{ℕ, ◌+◌, []}
-use Rattle.dap_views.specs.declared.children.Child.TheVariants as child
-use Rattle.dap_views.specs.declared.container.Container.TheVariants.{Descriptor}
-use Rattle.dap_views.proofs.Counted.{one_more}
-use Rattle.dap_views.proofs.children.of_descriptors.Goals as goal
-
-pub loop-number-preserved : goal.loop-number-preserved
-loop-number-preserved c =
-    one_more (λ (i : ℕ). child.Nested (Descriptor (3 + i))) c.loop-number.number [] c.loop-number.list.items c.push.new.self.items c.in_ok-push.ensures.items c.loop-number.invariant

@@ -1,8 +1,0 @@
-use Rattle.std.proofs.Common.{◌≡◌, ◌+◌, map}
-use Rattle.std.specs.List.{range_with_len}
-use Rattle.dap_views.specs.declared.children.Child.TheVariants as child
-use Rattle.dap_views.specs.declared.container.Container.TheVariants.{Descriptor}
-use Rattle.dap_views.proofs.children.of_descriptors.Given as goal
-
-abbrev pub invariant-loop-number : goal.invariant-loop-number
-invariant-loop-number l = l.list.items ≡ map (λ i. child.Nested (Descriptor (3 + i))) (range_with_len 0 l.number)

@@ -1,8 +1,0 @@
-use Rattle.std.proofs.Common.{◌≡◌, map}
-use Rattle.std.specs.List.{range_with_len}
-use Rattle.dap_views.specs.declared.children.Child.TheVariants as child
-use Rattle.dap_views.specs.declared.container.Container.TheVariants.{Object}
-use Rattle.dap_views.proofs.children.of_objects.Given as goal
-
-abbrev pub invariant-loop-number : goal.invariant-loop-number
-invariant-loop-number l = l.list.items ≡ map (λ o. child.Nested (Object o)) (range_with_len 0 l.number)
