@@ -2,7 +2,7 @@
 use Rattle.std.specs.Prelude.{◌≡◌, ◌≤◌, ◌+◌, ℕ, Option, Some, None, IsSomeAnd, length}
 use Rattle.command_line.specs.declared.task.Exploration.{Exploration}
 use Rattle.command_line.specs.declared.task.ReportForm.{ReportForm}
-use Rattle.command_line.specs.declared.task.ReportForm.TheVariants.{Text, Json, Sarif}
+use Rattle.command_line.specs.declared.task.ReportForm.TheVariants.{Sarif}
 use Rattle.command_line.specs.declared.task.Job.{Job}
 use Rattle.command_line.specs.declared.task.Job.TheVariants.{Walk, Replay, Log, Check, Explain, Timeline, Explore, Schedule, Live, Serve, Dap, Trace, Migrate}
 
@@ -42,9 +42,11 @@ abbrev pub AreThreads : Option ℕ → Type 0
 AreThreads None = Unit {0}
 AreThreads (Some threads) = (1 ≤ threads) × (threads ≤ 64)
 
--- Each number of a search is in its range.
+-- Each number of a search is in its range, and it looks for at most 8 places.
 abbrev pub IsSearch : Exploration → Type 0
-IsSearch search = AreRuns search.runs search.first search.events × AreThreads search.threads
+IsSearch search =
+    AreRuns search.runs search.first search.events × AreThreads search.threads
+    × (length search.until.items ≤ 8)
 
 -- The number of runs of a report: one of a SARIF log.
 abbrev pub AreReported : ReportForm → ℕ → Type 0

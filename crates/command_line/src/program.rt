@@ -10,6 +10,15 @@ use std::alloc::{AllocError, Global};
 /// The place of an option that help lists after all others, as it lists `--help`.
 const LAST: usize = 999;
 
+// Returns the option of this name with a kind of finding, whose names help lists if it is `--kind`.
+fn kind_arg<'a>(arg: Arg<'a>, word: &'static str) -> Arg<'a> {
+    arg.long(word)
+        .value_name("KIND")
+        .value_parser(KINDS)
+        .hide_possible_values(word != "kind")
+        .action(ArgAction::Append)
+}
+
 // Returns an operand as clap's argument.
 fn arg_of<'a>(alloc: Global, operand: &'a Operand) -> Result<Arg<'a>, AllocError> {
     let arg = Arg::new(alloc, operand.name).help(operand.help);
@@ -31,12 +40,10 @@ fn arg_of<'a>(alloc: Global, operand: &'a Operand) -> Result<Arg<'a>, AllocError
             .default_value("2")
             .value_parser(FORMS)
             .action(ArgAction::Set),
-        Shape::Kind(word) => arg
-            .long(word)
-            .value_name("KIND")
-            .value_parser(KINDS)
-            .hide_possible_values(word != "kind")
-            .action(ArgAction::Append),
+        Shape::Kind(word) => kind_arg(arg, word),
+        Shape::Allow => kind_arg(arg, "allow")
+            .conflicts_with("KIND")?
+            .conflicts_with("UNTIL")?,
         Shape::Flag(word) => arg.long(word).action(ArgAction::SetTrue),
         Shape::Sarif => arg
             .long("sarif")
@@ -49,7 +56,7 @@ fn arg_of<'a>(alloc: Global, operand: &'a Operand) -> Result<Arg<'a>, AllocError
         Shape::Until => arg
             .long("until")
             .value_name("P = V")
-            .action(ArgAction::Set)
+            .action(ArgAction::Append)
             .conflicts_with("KIND")?,
     })
 }

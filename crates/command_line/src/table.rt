@@ -31,8 +31,10 @@ pub enum Shape {
     Number(&'static str),
     /// The seed of a search.
     Seed,
-    /// A place and a value, in place of kinds.
+    /// A place and a value, in place of kinds. It may be repeated.
     Until,
+    /// The option `--allow` of a search, in place of the kinds to look for. It may be repeated.
+    Allow,
     /// A port, which is required.
     Port,
     /// The form of a trace, 1 or 2.
@@ -182,7 +184,8 @@ pub const OPTIONS: &str = "Options of the commands:
   timeline  --from <M>      First event to draw: 0 to 4294967295, default 0
             --to <N>        Event to stop before: 0 to 4294967295, default all
   explore   --kind <KIND>   Look for this kind alone, default all faults but failed and short; may be repeated
-            --until <P = V> Look for a moment at which this place gets this value, default none
+            --allow <KIND>  Don't look for faults of this kind; may be repeated
+            --until <P = V> Look for a moment at which this place gets this value; up to 8, which then all hold
             --runs <N>      Number of runs: 1 to 1000000, default 10000
             --seed <S>      Seed of the runs: 0 to 18446744073709551615, default 1
             --first <I>     Number of the first run, default 0
@@ -190,6 +193,7 @@ pub const OPTIONS: &str = "Options of the commands:
             --out <OUT>     Script file to write with the schedule that was found, default none
             --unlocked      Let threads come between another's put, push and enter
             --sound-device  Have no transfer end short or with EIO
+            --late          Let requests be issued after their submission, as no kernel does
             --threads <T>   Number of threads that make the runs: 1 to 64, default one per processor
             --json          Print the result as JSON, default text
   live      --turns <N>     Turns of each thread, of the poller and of each kernel worker: 1 to 1000000, default 1000
@@ -364,8 +368,13 @@ const REPORT_WORDS: &[Word] = &[
                 shape: Shape::Kind("kind"),
             },
             Operand {
+                name: "ALLOWED",
+                help: "Don't look for faults of this kind; may be repeated",
+                shape: Shape::Allow,
+            },
+            Operand {
                 name: "UNTIL",
-                help: "Look for a moment at which this place gets this value, default none",
+                help: "Look for a moment at which this place gets this value; up to 8, which then all hold",
                 shape: Shape::Until,
             },
             Operand {
@@ -402,6 +411,11 @@ const REPORT_WORDS: &[Word] = &[
                 name: "sound-device",
                 help: "Have no transfer end short or with EIO",
                 shape: Shape::Flag("sound-device"),
+            },
+            Operand {
+                name: "late",
+                help: "Let requests be issued after their submission, as no kernel does",
+                shape: Shape::Flag("late"),
             },
             Operand {
                 name: "T",

@@ -24,8 +24,10 @@ pub struct Exploration<'a> {
     pub script: &'a str,
     /// The names of the kinds to look for, or none to look for faults.
     pub kinds: Vec<&'a str>,
-    /// The text `P = V` of a place and a value to look for instead.
-    pub until: Option<&'a str>,
+    /// The names of the kinds whose faults aren't looked for.
+    pub allowed: Vec<&'a str>,
+    /// The texts `P = V` of places and values to look for instead: 8 at most.
+    pub until: Vec<&'a str>,
     /// The number of runs, 1 to 1000000.
     pub runs: u32,
     pub seed: u64,
@@ -39,6 +41,8 @@ pub struct Exploration<'a> {
     pub unlocked: bool,
     /// Whether no transfer ends short or with EIO.
     pub sound_device: bool,
+    /// Whether requests are issued later than by their submission.
+    pub late: bool,
     /// 1 to 64, or none for as many as there are processors.
     pub threads: Option<u32>,
     pub json: bool,

@@ -1,6 +1,6 @@
 //! Reads the words of the command line.
-ghost use Rattle.std.specs.Prelude.{◌↔◌, IsTrue, IfOk, IfNone};
-ghost use Rattle.command_line.specs.Jobs.{LosesScript, IsInRange, AreInRange, AreClients, AreReported, AreRuns, AreThreads};
+ghost use Rattle.std.specs.Prelude.{◌↔◌, ◌≤◌, IsTrue, IfOk, IfNone};
+ghost use Rattle.command_line.specs.Jobs.{LosesScript, IsInRange, AreInRange, AreClients, AreReported, AreRuns, AreThreads, IsSearch};
 
 use crate::program::program;
 use crate::table::{Verb, Word, file_words, report_words, thread_words};
@@ -58,6 +58,11 @@ const BEYOND_NUMBERS: &str =
     "invalid value for '--first <I>': with --runs <N>, I + N must be at most 4294967296";
 
 const BEYOND_EVENTS: &str = "invalid value for '--events <M>': it must be 1 to 65536";
+
+/// The most places whose values a search looks for at once.
+const MOST_GOALS: usize = 8;
+
+const BEYOND_GOALS: &str = "invalid value for '--until <P = V>': it may be given at most 8 times";
 
 const BEYOND_THREADS: &str = "invalid value for '--threads <T>': it must be 1 to 64";
 
@@ -131,7 +136,8 @@ fn explore_of<'a>(alloc: Global, matches: &ArgMatches<'a>) -> Result<Job<'a>, Al
     Ok(Job::Explore(Exploration {
         script: text_of(matches, "SCRIPT"),
         kinds: texts_of(alloc, matches, "KIND")?,
-        until: matches.get_str("UNTIL"),
+        allowed: texts_of(alloc, matches, "ALLOWED")?,
+        until: texts_of(alloc, matches, "UNTIL")?,
         runs: number_of(matches, "N").unwrap_or(DEFAULT_RUNS),
         seed: matches.get_one::<u64>("S").unwrap_or(DEFAULT_SEED),
         first: number_of(matches, "I").unwrap_or(0),
@@ -139,6 +145,7 @@ fn explore_of<'a>(alloc: Global, matches: &ArgMatches<'a>) -> Result<Job<'a>, Al
         out: matches.get_str("OUT"),
         unlocked: matches.get_flag("unlocked"),
         sound_device: matches.get_flag("sound-device"),
+        late: matches.get_flag("late"),
         threads: number_of(matches, "T"),
         json: matches.get_flag("json"),
     }))
@@ -300,6 +307,30 @@ fn threads_out_of_range(threads: Option<u32>) -> Option<&'static str>
     }
 }
 
+// Returns what is wrong with the number of places of a search, as text, if there are too many.
+fn goals_out_of_range(goals: usize) -> Option<&'static str>
+    ensures { IfNone result (goals ≤ 8) }
+{
+    if goals > MOST_GOALS {
+        Some(BEYOND_GOALS)
+    } else {
+        None
+    }
+}
+
+// Returns the range of the number of a search that is out of its range, as text.
+fn search_out_of_range(search: &Exploration<'_>) -> Option<&'static str>
+    ensures { IfNone result (IsSearch search.now) }
+{
+    if let Some(text) = runs_out_of_range(search.runs, search.first, search.events) {
+        return Some(text);
+    }
+    if let Some(text) = threads_out_of_range(search.threads) {
+        return Some(text);
+    }
+    goals_out_of_range(search.until.len())
+}
+
 // Returns what is wrong with the number of runs of a report, as text, if there are too many.
 fn runs_beyond_form(runs: usize, form: ReportForm) -> Option<&'static str>
     ensures { IfNone result (AreReported form runs) }
@@ -326,12 +357,7 @@ fn out_of_range(job: &Job<'_>) -> Option<&'static str>
             Some(text) => Some(text),
             None => run_out_of_range(*turns, *kernel),
         },
-        Job::Explore(search) => {
-            match runs_out_of_range(search.runs, search.first, search.events) {
-                Some(text) => Some(text),
-                None => threads_out_of_range(search.threads),
-            }
-        }
+        Job::Explore(search) => search_out_of_range(search),
         Job::Explain { runs, form, .. } => runs_beyond_form(runs.len(), *form),
         _ => None,
     }

@@ -1,6 +1,6 @@
 -- The run that was found shows the symptom, and the script has its setup.
-use Rattle.std.proofs.Common.{◌≡◌, ℕ, List, subst, None}
-use Rattle.std.specs.Prelude.{Ok}
+use Rattle.std.proofs.Common.{◌≡◌, ℕ, List, subst, None, Vec, Global}
+use Rattle.std.specs.Prelude.{Ok, Option, Some, IfSome}
 use Rattle.scenario.specs.declared.event.Event.{Event}
 use Rattle.scenario.specs.declared.setup.Setup.{Setup}
 use Rattle.script.specs.Scripts.{Scenario, Reads}
@@ -10,7 +10,8 @@ use Rattle.symptoms.specs.Symptoms.{Shows, IsFirst}
 use Rattle.exploring.specs.declared.random_runs.RandomRuns.{RandomRuns}
 use Rattle.exploring.specs.RandomRuns.{HasEvents, RunShows}
 use Rattle.rewriting.specs.Rewriting.{IsRewritten}
-use Rattle.conclusions.specs.Conclusions.{IsScriptOf}
+use Rattle.symptoms.specs.declared.symptom.Sighting.{Sighting}
+use Rattle.conclusions.specs.Conclusions.{IsScriptOf, IsShown, IsFoundScript}
 
 -- A run that shows the symptom has a sighting, whenever it is made.
 pub has_sighting : (r : RandomRuns) (n : ℕ) (es : List Event) → HasEvents r n es → RunShows r n → IsFirst r.setup.now es r.symptom None → ⊥
@@ -25,3 +26,8 @@ of_text text s p es made q reads rewritten =
     let P : Setup → Type 0 = λ x. IsRewritten text x es made in
     let setup : p.setup ≡ s = cc in
     subst P setup rewritten
+
+-- The script that is written has the schedule that was found.
+pub found_script : (text : List ℕ) (r : RandomRuns) (found : Option ℕ) (n : ℕ) (fs : List Event) (y : Sighting) (o : Option (Vec ℕ Global)) → found ≡ Some n → IsShown r n fs y → IfSome o (λ made. IsRewritten text r.setup.now fs made.items) → IfSome o (λ made. IsFoundScript text r found made.items)
+found_script text r found n fs y None hit shown rewritten = tt
+found_script text r found n fs y (Some made) hit shown rewritten = record { number = n; hit = hit; events = fs; sighting = y; shown = shown; rewritten = rewritten }

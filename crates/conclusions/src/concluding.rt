@@ -8,10 +8,11 @@ ghost use Rattle.conclusions.specs.Conclusions.{IsHit, IsScriptOf, IsFoundScript
 use crate::fault::ConclusionFault;
 use crate::shown::{Shown, sentence_of, shown_by};
 use explorations::{Discovery, Exploration, SeenKind, json_of, text_of};
-use exploring::{RandomRuns, Totals};
+use exploring::RandomRuns;
 use finding_kinds::Kind;
 use machine::Setup;
 use rewriting::{RewriteFault, with_schedule};
+use search_rounds::Totals;
 use shrinking::Shrunk;
 use std::alloc::{AllocError, Global};
 
@@ -29,8 +30,10 @@ pub struct Conclusion {
 pub struct Reporting<'a> {
     /// The text of the script.
     pub script: &'a [u8],
-    /// The place and its value, if they are looked for.
-    pub until: Option<&'a str>,
+    /// The texts of the places and their values, if they are looked for.
+    pub until: &'a [&'a str],
+    /// What fails in every run, a clause for each instruction.
+    pub every_run: &'a [String],
     /// The file to write.
     pub out: Option<&'a str>,
     pub json: bool,
@@ -51,7 +54,11 @@ fn seen_by(alloc: Global, kinds: &[Kind], totals: &Totals) -> Result<Vec<SeenKin
 }
 
 // Returns the result as text or as JSON.
-fn printed(alloc: Global, exploration: &Exploration<'_>, json: bool) -> Result<String, AllocError> {
+fn printed(
+    alloc: Global,
+    exploration: &Exploration<'_, '_>,
+    json: bool,
+) -> Result<String, AllocError> {
     if json {
         json_of(alloc, exploration)
     } else {
@@ -60,18 +67,23 @@ fn printed(alloc: Global, exploration: &Exploration<'_>, json: bool) -> Result<S
 }
 
 // Returns the result of a search.
-fn exploration_of<'a>(
-    seed: u64,
+fn exploration_of<'a, 'b>(
+    runs: &RandomRuns<'_>,
+    every_run: &'b [String],
     totals: &Totals,
     seen: &'a [SeenKind],
     discovery: Option<Discovery<'a>>,
-) -> Exploration<'a> {
+    unwritten: Option<&'b str>,
+) -> Exploration<'a, 'b> {
     Exploration {
-        seed,
+        seed: runs.seed,
+        late: runs.options.late,
+        every_run,
         runs: totals.runs,
         events: totals.events,
         seen,
         discovery,
+        unwritten,
     }
 }
 
@@ -90,9 +102,10 @@ fn report_of(
     let text = sentence_of(runs.alloc, runs.setup, &shown.shrunk)?;
     let sighting = shown.shrunk.sighting;
     let kind = sighting.finding.map(|finding| finding.kind.word());
+    let until = reporting.until.join(runs.alloc, ", ")?;
     let discovery = Discovery {
         kind,
-        name: kind.or(reporting.until).unwrap_or(""),
+        name: kind.unwrap_or(until.as_str()),
         moment: sighting.moment,
         run: number,
         text: text.as_str(),
@@ -100,7 +113,14 @@ fn report_of(
         schedule: &shown.shrunk.events,
         out: reporting.out,
     };
-    let exploration = exploration_of(runs.seed, totals, &seen, Some(discovery));
+    let exploration = exploration_of(
+        runs,
+        reporting.every_run,
+        totals,
+        &seen,
+        Some(discovery),
+        None,
+    );
     printed(runs.alloc, &exploration, reporting.json)
 }
 
@@ -113,7 +133,14 @@ fn nothing(
     ensures { IfOk result (λ c. (c.is_found ≡ false) × (c.script ≡ None)) }
 {
     let seen = seen_by(runs.alloc, runs.kinds, totals)?;
-    let exploration = exploration_of(runs.seed, totals, &seen, None);
+    let exploration = exploration_of(
+        runs,
+        reporting.every_run,
+        totals,
+        &seen,
+        None,
+        reporting.out,
+    );
     Ok(Conclusion {
         printed: printed(runs.alloc, &exploration, reporting.json)?,
         script: None,

@@ -1,7 +1,17 @@
-//! Why a search has no conclusion.
+//! Why a search has no goals or no conclusion.
 
+use commands::CommandFault;
 use rewriting::RewriteFault;
 use std::alloc::AllocError;
+
+/// Why texts have no goals.
+#[derive(Clone, Copy)]
+pub enum UntilFault {
+    /// The command `break` refuses a text.
+    Command(CommandFault),
+    /// An earlier text gives the place of the text at this index another value.
+    Twice(usize),
+}
 
 /// Why a search has no conclusion.
 #[derive(Clone, Copy)]

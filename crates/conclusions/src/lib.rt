@@ -8,5 +8,5 @@ mod shown;
 mod sought;
 
 pub use concluding::{Conclusion, Reporting, conclude};
-pub use fault::ConclusionFault;
-pub use sought::symptom_of;
+pub use fault::{ConclusionFault, UntilFault};
+pub use sought::{goals_of, symptom_of};

@@ -33,8 +33,12 @@ pub struct Discovery<'a> {
 
 /// The result of a search.
 #[derive(Clone, Copy)]
-pub struct Exploration<'a> {
+pub struct Exploration<'a, 'b> {
     pub seed: u64,
+    /// Whether requests may be issued later than by their submission.
+    pub late: bool,
+    /// What fails in every run, a clause for each instruction.
+    pub every_run: &'b [String],
     /// How many runs were made: all, or those up to the run with the discovery.
     pub runs: u64,
     /// The number of their events.
@@ -42,4 +46,6 @@ pub struct Exploration<'a> {
     /// The kinds that they showed, in the order of the table of kinds.
     pub seen: &'a [SeenKind],
     pub discovery: Option<Discovery<'a>>,
+    /// The file that isn't written, if there is one and nothing was found.
+    pub unwritten: Option<&'b str>,
 }

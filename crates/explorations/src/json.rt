@@ -18,21 +18,27 @@ enum Member<'a> {
 }
 
 /// The members of the object with their names, in the order in which `explore --json` prints them.
+/// The last one, `every_run`, comes after these.
 type Members<'a> = [(&'static str, Member<'a>); 13];
 
 /// The result of a search.
 #[derive(Clone, Copy)]
-struct ExplorationObject<'a>(&'a Members<'a>);
+struct ExplorationObject<'a, 'b> {
+    members: &'a Members<'a>,
+    every_run: &'b [String],
+}
 
-impl Described for ExplorationObject<'_> {}
+impl Described for ExplorationObject<'_, '_> {}
 
-impl Serialize for ExplorationObject<'_> {
+impl Serialize for ExplorationObject<'_, '_> {
     fn serialize<S: Serializer>(&self, out: &mut S) -> Result<(), S::Error> {
-        out.begin_map(Some(self.0.len()))?;
-        for (name, member) in self.0 {
+        out.begin_map(Some(self.members.len() + 1))?;
+        for (name, member) in self.members {
             out.key(name)?;
             member.serialize(out)?;
         }
+        out.key("every_run")?;
+        self.every_run.serialize(out)?;
         out.end_map()
     }
 }
@@ -55,7 +61,7 @@ fn optional(text: Option<&str>) -> Member<'_> {
 
 // Returns the members if the search found something. Only a finding has a kind and sentences.
 fn found_members<'a>(
-    search: &Exploration<'a>,
+    search: &Exploration<'a, '_>,
     found: &Discovery<'a>,
     items: &'a [EventItem],
 ) -> Members<'a> {
@@ -81,7 +87,7 @@ fn found_members<'a>(
 }
 
 // Returns the members if the search found nothing.
-fn nothing_members<'a>(search: &Exploration<'a>) -> Members<'a> {
+fn nothing_members<'a>(search: &Exploration<'a, '_>) -> Members<'a> {
     [
         ("found", Member::Flag(false)),
         ("kind", Member::Null),
@@ -99,14 +105,26 @@ fn nothing_members<'a>(search: &Exploration<'a>) -> Members<'a> {
     ]
 }
 
+// Returns the object as JSON on one line.
+fn object_of(
+    alloc: Global,
+    members: &Members<'_>,
+    every_run: &[String],
+) -> Result<String, AllocError> {
+    line_of(alloc, &ExplorationObject { members, every_run })
+}
+
 /// Returns the result of a search as an object of JSON on one line.
-pub fn json_of(alloc: Global, exploration: &Exploration<'_>) -> Result<String, AllocError> {
+pub fn json_of(alloc: Global, exploration: &Exploration<'_, '_>) -> Result<String, AllocError> {
     match &exploration.discovery {
         Some(found) => {
             let items = items_of(alloc, found.schedule)?;
-            let members = found_members(exploration, found, &items);
-            line_of(alloc, &ExplorationObject(&members))
+            object_of(
+                alloc,
+                &found_members(exploration, found, &items),
+                exploration.every_run,
+            )
         }
-        None => line_of(alloc, &ExplorationObject(&nothing_members(exploration))),
+        None => object_of(alloc, &nothing_members(exploration), exploration.every_run),
     }
 }

@@ -69,7 +69,7 @@ fn shrunk_text(alloc: Global, found: &Discovery<'_>) -> Result<String, AllocErro
 // Returns the text of a search that found something.
 fn discovery_text(
     alloc: Global,
-    search: &Exploration<'_>,
+    search: &Exploration<'_, '_>,
     found: &Discovery<'_>,
 ) -> Result<String, AllocError> {
     let headline = headline(alloc, search.seed, found)?;
@@ -81,7 +81,7 @@ fn discovery_text(
 }
 
 // Returns the text of a search that found nothing.
-fn nothing_text(alloc: Global, search: &Exploration<'_>) -> Result<String, AllocError> {
+fn nothing_text(alloc: Global, search: &Exploration<'_, '_>) -> Result<String, AllocError> {
     let Exploration {
         seed,
         runs,
@@ -100,13 +100,31 @@ fn nothing_text(alloc: Global, search: &Exploration<'_>) -> Result<String, Alloc
         )?;
         out.push_str(line.as_str())?;
     }
+    if let Some(path) = search.unwritten {
+        out.push_str(format!(in alloc; "{path} was not written\n")?.as_str())?;
+    }
+    Ok(out)
+}
+
+// Returns the lines before the result: whether runs may be late, and what fails in each of them.
+fn preface(alloc: Global, search: &Exploration<'_, '_>) -> Result<String, AllocError> {
+    let mut out = String::new(alloc);
+    if search.late {
+        out.push_str("requests may be issued late\n")?;
+    }
+    for failure in search.every_run {
+        out.push_str(format!(in alloc; "every run: {failure}\n")?.as_str())?;
+    }
     Ok(out)
 }
 
 /// Returns the result of a search as lines of text.
-pub fn text_of(alloc: Global, exploration: &Exploration<'_>) -> Result<String, AllocError> {
-    match &exploration.discovery {
-        Some(found) => discovery_text(alloc, exploration, found),
-        None => nothing_text(alloc, exploration),
-    }
+pub fn text_of(alloc: Global, exploration: &Exploration<'_, '_>) -> Result<String, AllocError> {
+    let mut out = preface(alloc, exploration)?;
+    let result = match &exploration.discovery {
+        Some(found) => discovery_text(alloc, exploration, found)?,
+        None => nothing_text(alloc, exploration)?,
+    };
+    out.push_str(result.as_str())?;
+    Ok(out)
 }

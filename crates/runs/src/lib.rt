@@ -13,4 +13,4 @@ pub use driving::{Ended, drive};
 pub use fault::ReportFault;
 pub use observer::{Observed, Observer};
 pub use pair::{Either, Pair};
-pub use reading::{Run, RunFault, read_run};
+pub use reading::{Run, RunFault, is_trace, read_run};

@@ -120,6 +120,11 @@ fn read_as_trace(alloc: Global, trace: &[u8]) -> Result<Run, RunFault>
     }
 }
 
+/// Returns whether bytes are read as a trace: they begin with a `U`.
+pub fn is_trace(bytes: &[u8]) -> bool {
+    bytes.first() == Some(&TRACE_MARK)
+}
+
 /// Reads a trace of the second form if the bytes begin with a `U`, and otherwise a script.
 pub fn read_run(alloc: Global, bytes: &[u8]) -> Result<Run, RunFault>
     ensures ok { IfOk result (Reads bytes.now) }

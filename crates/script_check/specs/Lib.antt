@@ -1,1 +1,2 @@
+pub mod SureFailures
 pub mod Verdicts

@@ -1,5 +1,5 @@
 -- What `check` decides about a script: it is fine, it is faulty, or an event of it is refused.
-use Rattle.std.specs.Prelude.{◌≡◌, ◌<◌, ◌≤◌, ℕ, List, length, Ok, Err}
+use Rattle.std.specs.Prelude.{◌≡◌, ◌≢◌, ◌<◌, ◌≤◌, ℕ, List, [], length, Ok, Err}
 use Rattle.scenario.specs.declared.event.Event.{Event}
 use Rattle.scenario.specs.declared.setup.Setup.{Setup}
 use Rattle.machine.specs.Runs.{start, Accepts, IsRefused}
@@ -10,12 +10,17 @@ use Rattle.script.specs.declared.fault.ScriptFault.TheVariants.{Limit}
 use Rattle.runs.specs.declared.fault.ReportFault.{ReportFault}
 use Rattle.runs.specs.declared.fault.ReportFault.TheVariants.{Script, Write, Memory}
 use Rattle.script_check.specs.declared.verdict.Verdict.{Verdict}
-use Rattle.script_check.specs.declared.verdict.Verdict.TheVariants.{Fine, Faulty, Refused}
+use Rattle.script_check.specs.declared.verdict.Verdict.TheVariants.{Fine, Unscheduled, Faulty, Refused}
 
--- How the schedule of a valid script ends: every event is accepted, or event i is the first that is
--- refused, for reason n.
+-- Whether a script has threads, and no event for them.
+abbrev pub IsUnscheduled : Setup → List Event → Type 0
+IsUnscheduled s es = (es ≡ []) × (s.threads ≢ [])
+
+-- How the schedule of a valid script ends: every event is accepted, or there is none though the
+-- script has threads, or event i is the first that is refused, for reason n.
 abbrev pub Ends : Setup → List Event → Verdict → Type 0
-Ends s es Fine = Accepts (start s) es
+Ends s es Fine = Accepts (start s) es × (IsUnscheduled s es → ⊥)
+Ends s es Unscheduled = IsUnscheduled s es
 Ends s es (Refused i n) = IsRefused s es i n
 Ends s es (Faulty f) = ⊥
 
@@ -24,6 +29,8 @@ Ends s es (Faulty f) = ⊥
 abbrev pub IsVerdict : List ℕ → Verdict → Type 0
 IsVerdict text (Faulty f) = (length text ≤ limit) × Reads text (Err f)
 IsVerdict text Fine = (p : Scenario) × Reads text (Ok p) × Ends p.setup p.schedule Fine
+IsVerdict text Unscheduled =
+    (p : Scenario) × Reads text (Ok p) × Ends p.setup p.schedule Unscheduled
 IsVerdict text (Refused i n) =
     (p : Scenario) × Reads text (Ok p) × Ends p.setup p.schedule (Refused i n)
 

@@ -1,11 +1,12 @@
 //! The `check` subcommand: writes what is wrong with a script.
 ghost use Rattle.std.specs.Prelude.{◌≡◌, ◌≤◌, None, length, IfOk, IfErr};
 ghost use Rattle.scenario.specs.Setups.{setup_refusal};
+ghost use Rattle.machine.specs.Runs.{start, Accepts};
 ghost use Rattle.script_check.specs.Verdicts.{Ends, IsVerdict, IsOfOutput, IsUnreported};
 
 use crate::document::Wording;
 use crate::refused::sentence_at;
-use crate::report::{Source, event_text, faults_text};
+use crate::report::{Source, event_text, faults_text, warnings_text};
 use crate::verdict::Verdict;
 use machine::{Event, Refusal, Setup, State};
 use runs::{Ended, ReportFault, drive};
@@ -44,6 +45,17 @@ fn refusal_text(
     event_text(alloc, source, index, message.as_str())
 }
 
+// Returns the verdict on a valid script whose events are all accepted.
+fn accepted(setup: &Setup, events: &[Event]) -> Verdict
+    ensures { Accepts (start setup.now) events.now → Ends setup.now events.now result }
+{
+    if events.is_empty() && !setup.threads.as_slice().is_empty() {
+        Verdict::Unscheduled
+    } else {
+        Verdict::Fine
+    }
+}
+
 // Runs events from the start of a setup, writes the report, and returns the verdict.
 fn check_events<W: Write>(
     alloc: Global,
@@ -62,12 +74,14 @@ fn check_events<W: Write>(
     };
     match drive(&mut state, setup, events, &mut ()) {
         Ok(()) => {
+            write_text(warnings_text(alloc, source, setup), writer)?;
             write_text(String::from_str(alloc, "ok\n"), writer)?;
-            Ok(Verdict::Fine)
+            Ok(accepted(setup, events))
         }
         Err(Ended::Refused(index, refusal)) => {
             let text = refusal_text(alloc, source, &state, setup, events, index, refusal);
             write_text(text, writer)?;
+            write_text(warnings_text(alloc, source, setup), writer)?;
             Ok(Verdict::Refused(index, refusal))
         }
         Err(Ended::Memory) => Err(ReportFault::Memory),
@@ -89,7 +103,8 @@ fn check_plan<W: Write>(
 
 /// Writes what is wrong with a script, or `ok`. For an invalid script, writes a line for each of at
 /// most 20 faults, beginning with its first fault. For a valid one, writes a line about the first
-/// event that is refused. These lines begin with `name`. A text of more than 8,388,608 bytes gets
+/// event that is refused, and a warning for each request that fails in every run, at most 20. These
+/// lines begin with `name`. A text of more than 8,388,608 bytes gets
 /// no verdict: it isn't read, and nothing is written.
 #[tactic(auto, using(crate::proofs::VerdictLemmas::verdict_of_plan, crate::proofs::VerdictLemmas::unreported))]
 pub fn check_script<W: Write>(

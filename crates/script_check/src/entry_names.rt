@@ -72,7 +72,7 @@ pub(crate) fn odd_value(alloc: Global, key: &str, value: &Value) -> Wording {
         Some(opcode) if key == "op" && !is_modelled(opcode) => {
             let unmodelled = Unmodelled(opcode);
             format!(in alloc;
-                "\"{key}\":{shown}, but {key} is a number: write {opcode}; {unmodelled}"
+                "\"{key}\":{shown}, but {key} is a number: write {opcode}; {unmodelled}: it completes with EINVAL"
             )
         }
         Some(number) => {

@@ -5,6 +5,7 @@
 mod checking;
 mod document;
 mod entry_names;
+mod failing;
 mod fault_sentences;
 mod file_lines;
 mod further;
@@ -17,6 +18,7 @@ mod report;
 mod verdict;
 
 pub use checking::check_script;
+pub use failing::{SureFailure, sure_failures};
 pub use file_lines::{long_line, unread_line};
 pub use refused::refusal_sentence;
 pub use verdict::Verdict;

@@ -13,16 +13,6 @@ use std::alloc::Global;
 /// The most rows of a run.
 const MOST_ROWS: u32 = 65536;
 
-// Returns how many rows there are.
-fn row_count(state: &State) -> u32 {
-    for number in 0..MOST_ROWS {
-        if state.row(number).is_none() {
-            return number;
-        }
-    }
-    MOST_ROWS
-}
-
 // Returns the clause that says how completions get into the ring. While the backlog has some, new
 // ones are added to the backlog.
 fn remedy_for_completions(state: &State) -> &'static str {
@@ -87,7 +77,7 @@ fn too_many(alloc: Global) -> Wording {
 }
 
 fn no_such_row(alloc: Global, state: &State) -> Wording {
-    let count = row_count(state);
+    let count = state.row_count();
     let verb = if count == 1 { "is" } else { "are" };
     let rows = Counted::rows(u64::from(count));
     format!(in alloc;
@@ -120,7 +110,9 @@ fn completed(alloc: Global, name: RowName, row: &Row, res: i32) -> Wording {
     let opcode = row.entry.opcode;
     if res == -EINVAL && !is_modelled(opcode) {
         let unmodelled = Unmodelled(opcode);
-        return format!(in alloc; "row {name} has completed with {result}; {unmodelled}");
+        return format!(in alloc;
+            "row {name} has completed with {result}; {unmodelled}: it completes with EINVAL"
+        );
     }
     format!(in alloc; "row {name} has completed with {result}")
 }

@@ -1,11 +1,13 @@
 //! The lines that report what is wrong with a script.
 
 use crate::document::Wording;
+use crate::failing::{SureFailure, sure_failures};
 use crate::fault_sentences::{is_unknown, sentence, unknown_key};
 use crate::further::{MOST_FAULTS, faults_of};
 use crate::locating::{Position, key_word, offset_of, position_of};
 use crate::not_json::no_json;
 use json_offsets::members_of;
+use machine::Setup;
 use script::items::{item_path, key_path};
 use script::{Key, Path, ScriptFault};
 use serde_json::Value;
@@ -124,6 +126,37 @@ pub(crate) fn faults_text(alloc: Global, source: Source<'_>, first: ScriptFault)
             no_json(alloc, source.name, source.text, &error)
         }
     }
+}
+
+// Returns the line of a request that fails in every run, with the position of its instruction.
+fn warning_line(
+    alloc: Global,
+    source: Source<'_>,
+    spans: &Spans,
+    failure: &SureFailure,
+) -> Wording {
+    let name = source.name;
+    let path = Path {
+        key: Key::Threads,
+        item: Some(failure.thread),
+        inner: Some(failure.instruction),
+    };
+    let Position { line, column } = position_of(source.text, offset_of(source.text, spans, path));
+    format!(in alloc; "{name}:{line}:{column}: warning: {failure}\n")
+}
+
+/// Returns a line for each request that fails in every run, at most 20.
+pub(crate) fn warnings_text(alloc: Global, source: Source<'_>, setup: &Setup) -> Wording {
+    let failures = sure_failures(alloc, setup)?;
+    let mut out = String::new(alloc);
+    if failures.is_empty() {
+        return Ok(out);
+    }
+    let spans = spans_of(alloc, source.text)?;
+    for failure in &failures {
+        out.push_str(warning_line(alloc, source, &spans, failure)?.as_str())?;
+    }
+    Ok(out)
 }
 
 /// Returns the line of a sentence about an event of the schedule.

@@ -8,6 +8,8 @@ use script::ScriptFault;
 pub enum Verdict {
     /// The script is valid, and every event of its schedule is accepted.
     Fine,
+    /// The script is valid. It has threads, and its schedule is empty.
+    Unscheduled,
     /// The script is invalid, with this first fault.
     Faulty(ScriptFault),
     /// The script is valid. The event at this index is the first that is refused, for this reason.

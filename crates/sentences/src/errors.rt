@@ -67,7 +67,7 @@ pub(crate) fn failed(run: &Run<'_>, about: &About) -> Text {
     if is_of_opcode(about, res) {
         let opcode = Unmodelled(about.row.entry.opcode);
         return format!(in run.alloc();
-            "Row {name} completed with {result}{stage}; {opcode} {ERROR_RULE}."
+            "Row {name} completed with {result}{stage}; {opcode}: it completes with EINVAL {ERROR_RULE}."
         );
     }
     let reason = reason(run, about, res)?;

@@ -104,7 +104,8 @@ pub fn is_modelled(opcode: u8) -> bool {
     Op::from_opcode(opcode).is_some()
 }
 
-/// An opcode that isn't modelled, which prints as the clause that says so.
+/// An opcode that isn't modelled, which prints as the clause that says so. Its requests complete
+/// with EINVAL.
 #[derive(Clone, Copy)]
 pub struct Unmodelled(pub u8);
 
@@ -115,6 +116,6 @@ impl fmt::Display for Unmodelled {
         if let Some(name) = opcode_name(*opcode) {
             write!(f, " ({name})")?;
         }
-        f.write_str(" isn't modelled: it completes with EINVAL")
+        f.write_str(" isn't modelled")
     }
 }

@@ -23,6 +23,9 @@ const POLLER_RULE: &str = "(io_uring_setup(2), IORING_SETUP_SQPOLL)";
 const TIMEOUT_RETURNS: &str =
     " A kernel returns from this enter once a TIMEOUT completes (io_uring_enter(2)).";
 
+/// What a wait at the end adds if nothing is left for a loop to handle.
+const IDLE: &str = "; all requests have completed: an idle loop may wait";
+
 fn entries(run: &Run<'_>) -> Counted {
     Counted::entries(u64::from(run.state.submissions().waiting()))
 }
@@ -191,10 +194,21 @@ fn requested_by(run: &Run<'_>, thread: u32) -> u32 {
     }
 }
 
+// Returns whether nothing is left for a loop to handle: there were requests, all have completed,
+// and neither ring nor the backlog has anything.
+fn is_idle(run: &Run<'_>) -> bool {
+    run.state.row_count() > 0
+        && run.state.next_unfinished(0).is_none()
+        && run.state.submissions().waiting() == 0
+        && run.state.completions().waiting() == 0
+        && !is_overflowing(run)
+}
+
 // Returns what the sentence of a waiting thread says of the rest of the run: within it, and at its
 // end.
 fn outlook_of(run: &Run<'_>, verdict: Verdict, thread: u32) -> (&'static str, &'static str) {
     match run.state.refuses(Event::Step(thread)) {
+        Some(_) if is_idle(run) => (IDLE, ""),
         Some(_) => ("", cut_off(verdict)),
         None => (". It could continue: the run just ends before that", ""),
     }

@@ -1,4 +1,5 @@
 //! A complete run with its findings, and look-ups in its history.
+ghost use Rattle.std.specs.Prelude.{◌≡◌};
 
 use crate::names::RowName;
 use entries::{ECANCELED, Phase, Row};
@@ -128,6 +129,25 @@ impl Run<'_> {
         let slot = self.history.origins.get(number as usize).copied()?;
         let queued = self.times_of(number)?.queued;
         self.thread_step(self.last_put(slot, queued)?)
+    }
+
+    /// Returns the put of the first WRITE whose bytes of a file aren't durable at the end. None if
+    /// no thread put its entry.
+    pub fn lost_put(&self, file: u32) -> Option<ThreadStep> {
+        let mut lost = self.history.lost.iter();
+        let write = lost.find(|lost| lost.file == file)?;
+        self.put_of(write.row)
+    }
+
+    /// Returns the step that a thread does next at the end, or in which it waits.
+    pub fn next_step(&self, thread: u32) -> ThreadStep
+        ensures { result.thread ≡ thread }
+    {
+        let counter = self.number(Place::ProgramCounter(thread));
+        ThreadStep {
+            thread,
+            instruction: counter.min(u64::from(u32::MAX)) as u32,
+        }
     }
 
     /// Returns the moment before the event that closed a descriptor of the setup.

@@ -1,9 +1,9 @@
 //! The `check` subcommand: the faults of a script.
 
-use crate::SCRIPT_AND_ONE;
 use crate::input::{is_standard_input, read_input};
 use crate::output::{Output, write_text};
 use crate::reporting::fault_of_report;
+use crate::{SCRIPT_AND_ONE, suggest_explore};
 use debug_server::{Fault, RunFault};
 use runs::ReportFault;
 use script_check::{Verdict, check_script, long_line, unread_line};
@@ -34,7 +34,7 @@ fn report_length<R: Files + Print + AllocGlobal>(
 }
 
 // Prints the faults of a script's text, or `ok` if it has none. Returns the exit status.
-fn report_faults<R: Files + Print + AllocGlobal>(
+fn report_faults<R: Files + Print + Eprint + AllocGlobal>(
     rt: &R,
     path: &str,
     text: &[u8],
@@ -42,6 +42,10 @@ fn report_faults<R: Files + Print + AllocGlobal>(
 ) -> Result<ExitCode, Fault> {
     match check_script(rt.alloc(), path, text, output) {
         Ok(Verdict::Fine) => Ok(ExitCode::SUCCESS),
+        Ok(Verdict::Unscheduled) => {
+            suggest_explore(rt, path);
+            Ok(ExitCode::SUCCESS)
+        }
         Ok(Verdict::Faulty(_)) | Ok(Verdict::Refused(_, _)) => Ok(ExitCode::FAILURE),
         Err(ReportFault::Script(_)) => report_length(rt, path, output),
         Err(fault) => Err(fault_of_report(fault)),
@@ -50,7 +54,7 @@ fn report_faults<R: Files + Print + AllocGlobal>(
 
 /// Prints the faults of a script, or `ok` if it has none. Returns exit status 1 if it has some,
 /// otherwise 0.
-pub fn check_file<R: Files + Input + Print + AllocGlobal>(
+pub fn check_file<R: Files + Input + Print + Eprint + AllocGlobal>(
     rt: &R,
     path: &str,
 ) -> Result<ExitCode, Fault> {

@@ -1,12 +1,13 @@
 //! The `explain` subcommand: the findings of one run or of several.
 
-use crate::WHOLE_TRACE_AND_ONE;
 use crate::input::{is_standard_input, read_input};
 use crate::output::{Output, write_text};
 use crate::reporting::Failure;
+use crate::{WHOLE_TRACE_AND_ONE, suggest_explore};
 use debug_server::{Fault, ReportForm, RunFault};
 use explanations::{Explanation, Form, Request, explain_run, named_fault, named_report};
 use finding_kinds::Kind;
+use runs::is_trace;
 use std::alloc::{AllocError, Global};
 use std::process::ExitCode;
 use std::rt::Files;
@@ -79,9 +80,9 @@ fn form_of<'a>(form: ReportForm, runs: &[&'a str]) -> Form<'a> {
     }
 }
 
-// Reads a run, and returns its report.
+// Reads a run, and returns its report. Says on standard error if a script has no schedule.
 fn explanation_of(
-    rt: &(impl Files + Input + AllocGlobal),
+    rt: &(impl Files + Input + Eprint + AllocGlobal),
     run: &str,
     request: Request<'_>,
 ) -> Result<Explanation, Failure> {
@@ -90,7 +91,12 @@ fn explanation_of(
         Err(fault) => return Err(Failure::from_fault(rt.alloc(), fault)),
     };
     match explain_run(rt.alloc(), &bytes, request) {
-        Ok(explanation) => Ok(explanation),
+        Ok(explanation) => {
+            if explanation.is_unscheduled && !is_trace(&bytes) {
+                suggest_explore(rt, run);
+            }
+            Ok(explanation)
+        }
         Err(fault) => Err(Failure::from_report(rt.alloc(), &bytes, fault)),
     }
 }
@@ -102,7 +108,13 @@ fn explain_one<R: Files + Input + Print + Eprint + AllocGlobal>(
     request: Request<'_>,
 ) -> Result<ExitCode, Fault> {
     match explanation_of(rt, run, request) {
-        Ok(Explanation { text, is_faulty }) => {
+        Ok(
+            Explanation {
+                text,
+                is_faulty,
+                ..
+            },
+        ) => {
             write_text(&mut Output::new(rt), Ok(text))?;
             Ok(Ending::from_report(is_faulty).status())
         }
@@ -124,7 +136,7 @@ fn text_of_failure(
 
 // Returns the report or the fault of a run among several, with the name of the run.
 fn named_text(
-    rt: &(impl Files + Input + AllocGlobal),
+    rt: &(impl Files + Input + Eprint + AllocGlobal),
     run: &str,
     request: Request<'_>,
 ) -> (Result<String, AllocError>, Ending) {
@@ -153,7 +165,7 @@ fn text_before(index: usize, json: bool) -> &'static str {
 }
 
 // Prints the report of each of several runs.
-fn explain_each<R: Files + Input + Print + AllocGlobal>(
+fn explain_each<R: Files + Input + Print + Eprint + AllocGlobal>(
     rt: &R,
     runs: &[&str],
     request: Request<'_>,

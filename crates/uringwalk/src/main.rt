@@ -28,6 +28,7 @@ use debug_server::{
 use drawing::draw_file;
 use editing::serve_editor;
 use explaining::explain_files;
+use input::is_standard_input;
 use living::live_file;
 use logging::log_file;
 use run_log::EventRange;
@@ -238,6 +239,18 @@ fn loses_script(rt: &(impl Files + AllocGlobal), job: &Job<'_>) -> Result<bool, 
 fn fail<T: fmt::Display>(rt: &impl Eprint, status: u8, line: &T) -> ExitCode {
     match eprintln!(rt; "{line}") {
         Ok(()) | Err(_) => ExitCode::from(status),
+    }
+}
+
+// Says on standard error that the script in a file has no schedule, if that can be written.
+fn suggest_explore(rt: &impl Eprint, path: &str) {
+    let path = if is_standard_input(path) {
+        "SCRIPT"
+    } else {
+        path
+    };
+    match eprintln!(rt; "the schedule is empty: explore {path} tries schedules") {
+        Ok(()) | Err(_) => {}
     }
 }
 

@@ -10,13 +10,18 @@ use crate::output::{Output, write_text};
 use crate::progress::Progress;
 use crate::{SCRIPT_AND_ONE, TOO_LONG, fail, file_fault};
 use commands::CommandFault;
-use conclusions::{Conclusion, ConclusionFault, Reporting, conclude, symptom_of};
+use conclusions::{
+    Conclusion, ConclusionFault, Reporting, UntilFault, conclude, goals_of, symptom_of,
+};
 use debug_server::{Exploration, Fault, KINDS, RunFault, fault_text};
-use exploring::{RandomRuns, explore};
+use exploring::RandomRuns;
 use machine::Setup;
 use rewriting::RewriteFault;
 use sampling::{Program, SampleOptions};
 use script::{ScriptFault, read_script};
+use script_check::sure_failures;
+use search_rounds::explore;
+use std::alloc::{AllocError, Global};
 use std::process::ExitCode;
 use std::rt::Files;
 use std::thread;
@@ -60,6 +65,15 @@ fn refuse_until(rt: &impl Eprint, fault: CommandFault) -> ExitCode {
     }
 }
 
+// Reports a text that names a place to which another one gives another value.
+fn refuse_second(rt: &impl Eprint, text: &str) -> ExitCode {
+    match eprintln!(rt;
+        "error: '--until {text}' names a place to which another '--until' gives another value"
+    ) {
+        Ok(()) | Err(_) => ExitCode::from(WORDS),
+    }
+}
+
 // Returns how many threads make the runs.
 fn thread_count(rt: &impl Threads, threads: Option<u32>) -> usize
     requires { AreThreads threads }
@@ -74,8 +88,17 @@ fn thread_count(rt: &impl Threads, threads: Option<u32>) -> usize
     }
 }
 
+// Returns what fails in every run, a clause for each instruction.
+fn failures_in(alloc: Global, setup: &Setup) -> Result<Vec<String>, AllocError> {
+    let mut clauses = Vec::new(alloc);
+    for failure in &sure_failures(alloc, setup)? {
+        clauses.push(format!(in alloc; "{failure}")?)?;
+    }
+    Ok(clauses)
+}
+
 // Searches, and returns what to print and to write.
-fn conclusion_of<R: Eprint + Threads + Clock + Sync>(
+fn conclusion_of<R: Eprint + AllocGlobal + Threads + Clock + Sync>(
     rt: &R,
     task: Task<'_>,
     runs: &RandomRuns<'_>,
@@ -91,9 +114,11 @@ fn conclusion_of<R: Eprint + Threads + Clock + Sync>(
     let report = explore(rt, runs, &mut lanes, words.first, words.runs, |count| {
         progress.show(rt, count)
     })?;
+    let every_run = failures_in(rt.alloc(), runs.setup)?;
     let reporting = Reporting {
         script: task.script,
-        until: words.until,
+        until: &words.until,
+        every_run: &every_run,
         out: words.out,
         json: words.json,
     };
@@ -145,6 +170,7 @@ fn explore_for<R: Files + Print + Eprint + AllocGlobal + Threads + Clock + Sync>
         options: SampleOptions {
             unlocked: words.unlocked,
             sound_device: words.sound_device,
+            late: words.late,
             most: words.events,
         },
         seed: words.seed,
@@ -174,12 +200,19 @@ fn explore_setup<R: Files + Print + Eprint + AllocGlobal + Threads + Clock + Syn
     requires starts { setup_refusal setup.now ≡ None }
     requires script { IsScriptOf task.script.now setup.now }
 {
-    let Ok(kinds) = kinds_of(rt.alloc(), &task.words.kinds) else {
+    let words = task.words;
+    let (Ok(kinds), Ok(allowed)) = (
+        kinds_of(rt.alloc(), &words.kinds),
+        kinds_of(rt.alloc(), &words.allowed),
+    ) else {
         return Err(MEMORY);
     };
-    match symptom_of(rt.alloc(), setup, &kinds, task.words.until) {
-        Ok(Ok(symptom)) => explore_for(rt, task, setup, symptom),
-        Ok(Err(fault)) => Ok(refuse_until(rt, fault)),
+    match goals_of(rt.alloc(), setup, &words.until) {
+        Ok(Ok(goals)) => explore_for(rt, task, setup, symptom_of(&goals, &kinds, &allowed)),
+        Ok(Err(UntilFault::Command(fault))) => Ok(refuse_until(rt, fault)),
+        Ok(Err(UntilFault::Twice(index))) => {
+            Ok(refuse_second(rt, words.until.get(index).copied().unwrap_or("")))
+        }
         Err(_) => Err(MEMORY),
     }
 }
