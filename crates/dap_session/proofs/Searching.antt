@@ -1,5 +1,5 @@
 -- Reports of the findings of a run. A line of the console changes neither its setup nor its events.
-use Rattle.std.proofs.Common.{◌≡◌, ℕ, List, length, nat_le, Bool, true, false, cond, Option, Some, None, Result, Ok, Err, OnOk, OnErr, refl, sym, subst}
+use Rattle.std.proofs.Common.{◌≡◌, ℕ, List, length, nat_le, Bool, true, false, cond, Option, Some, None, Result, Ok, Err, IfSome, OnOk, OnErr, refl, sym, subst}
 use Rattle.scenario.specs.declared.setup.Setup.{Setup}
 use Rattle.scenario.specs.declared.event.Event.{Event}
 use Rattle.inverse_log.specs.Walks.{Walk}
@@ -10,9 +10,11 @@ use Rattle.commands.specs.Commands.{command_of}
 use Rattle.findings.specs.Findings.{IsReportOf}
 use Rattle.explanations.specs.ReportLists.{findings_in}
 use Rattle.explanations.specs.declared.reporting.Report.{Report}
+use Rattle.explanations.specs.declared.subjects.Subject.TheVariants.{Instruction}
+use Rattle.sentences.specs.declared.run.ThreadStep.{ThreadStep}
 use Rattle.debug_server.specs.Replies.{Reply, is_full, reply, reply_to}
 use Rattle.debug_server.specs.SessionStates.{SessionState, SessionValue}
-use Rattle.dap_session.specs.Searches.{AreReportsIfAny, AreReportsOf}
+use Rattle.dap_session.specs.Searches.{AreReportsIfAny, AreReportsOf, IsPointedAt, IsReportAt}
 
 -- Two walks are through one run.
 abbrev pub IsSameRun : Walk → Walk → Type 0
@@ -50,7 +52,7 @@ reports_stay w v None e h = tt
 reports_stay w v (Some rs) e h =
     let P : Setup → Type 0 = λ s. IsReportOf s v.events (findings_in rs) in
     let Q : List Event → Type 0 = λ es. IsReportOf w.setup es (findings_in rs) in
-    subst Q (sym e.1) (subst P (sym e.0) h)
+    record { findings = subst Q (sym e.1) (subst P (sym e.0) h.findings); subjects = h.subjects }
 
 -- The reports of a run after a search are those of the run before it.
 pub reports_before : (s t : SessionValue) (reports : List Report) → t ≡ s → AreReportsOf t.state.walk reports → AreReportsOf s.state.walk reports
@@ -62,3 +64,9 @@ stay_at_line (Ok x) s t line rs next err h =
     let after = reports_stay (reply s.state line None).next.walk s.state.walk rs (lines_keep_run s.state line) h in
     subst (λ (u : SessionValue). AreReportsIfAny u.state.walk rs) (sym next) after
 stay_at_line (Err x) s t line rs next err h = subst (λ (u : SessionValue). AreReportsIfAny u.state.walk rs) (sym err) h
+
+-- ---- What a report points at
+
+pub pointed_by : (w : Walk) (moment : ℕ) (report : Report) (step : Option ThreadStep) → IsReportAt w moment report → IfSome step (λ s. report.subject ≡ Instruction s) → IfSome step (IsPointedAt w moment)
+pointed_by w moment report None is_report points = tt
+pointed_by w moment report (Some s) is_report points = record { report = report; is_report = is_report; points = points }

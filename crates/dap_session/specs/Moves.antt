@@ -18,7 +18,7 @@ use Rattle.dap_messages.specs.declared.request.ExceptionFilter.{ExceptionFilter}
 use Rattle.dap_messages.specs.declared.request.Request.{Request}
 use Rattle.dap_messages.specs.declared.request.Request.TheVariants as request
 use Rattle.dap_messages.specs.declared.request.StepArguments.{StepArguments}
-use Rattle.dap_views.specs.Steps.{moment_ahead, moment_back}
+use Rattle.dap_lists.specs.Steps.{moment_ahead, moment_back}
 use Rattle.dap_views.specs.Threads.{thread_of}
 use Rattle.dap_session.specs.Runs.{RunState, walk_of, len_of, gone_to}
 use Rattle.dap_session.specs.Searches.{StopsAtFindings}

@@ -1,10 +1,11 @@
 -- What responses show of a run: "Threads Request", "StackTrace Request", "Scopes Request",
 -- "Variables Request" and "Evaluate Request" of the Debug Adapter Protocol's specification.
-use Rattle.std.specs.Prelude.{◌≡◌, ℕ, ◌==◌, List, [], ◌∷◌, ⊤, Bool, true, false, Option, Some, option_map}
+use Rattle.std.specs.Prelude.{◌≡◌, ℕ, ◌==◌, ◌⊎◌, List, [], ◌∷◌, ⊤, Bool, true, false, Option, Some, option_map}
 use Rattle.serde_json.specs.Data.{Data}
 use Rattle.serde_json.specs.View.{view}
 use Rattle.serde_json.specs.declared.value.Value.{Value}
 use Rattle.explanations.specs.declared.reporting.Report.{Report}
+use Rattle.sentences.specs.declared.run.ThreadStep.{ThreadStep}
 use Rattle.source_map.specs.declared.map.SourceMap.{SourceMap}
 use Rattle.dap_messages.specs.declared.request.Context.{Context}
 use Rattle.dap_messages.specs.declared.request.Context.TheVariants as context
@@ -13,28 +14,50 @@ use Rattle.dap_messages.specs.declared.request.Request.{Request}
 use Rattle.dap_messages.specs.declared.request.Request.TheVariants as request
 use Rattle.dap_messages.specs.declared.request.VariablesArguments.{VariablesArguments}
 use Rattle.stops.specs.declared.steps.EditorThread.{EditorThread}
+use Rattle.stops.specs.declared.steps.EditorThread.TheVariants.{Thread}
 use Rattle.dap_views.specs.Bodies.{evaluate_body, frame_data, scopes_body, stack_body, threads_body, variables_body}
-use Rattle.dap_views.specs.Containers.{container_of}
+use Rattle.dap_variables.specs.Containers.{container_of}
 use Rattle.dap_views.specs.Evaluations.{evaluation}
-use Rattle.dap_views.specs.Frames.{frame_of}
-use Rattle.dap_views.specs.Pages.{IsPage, excludes}
-use Rattle.dap_views.specs.Variables.{AreVariables}
-use Rattle.dap_views.specs.declared.container.Container.{Container}
-use Rattle.dap_views.specs.declared.container.Container.TheVariants.{Findings}
-use Rattle.dap_views.specs.declared.variable.Variable.{Variable}
-use Rattle.dap_session.specs.Moves.{thread_at}
+use Rattle.dap_views.specs.Frames.{frame_at, frame_of}
+use Rattle.dap_lists.specs.Pages.{IsPage, excludes}
+use Rattle.dap_lists.specs.Listed.{AreVariables}
+use Rattle.dap_variables.specs.declared.container.Container.{Container}
+use Rattle.dap_variables.specs.declared.container.Container.TheVariants.{Findings}
+use Rattle.dap_views.specs.declared.frames.Frame.{Frame}
+use Rattle.dap_variables.specs.declared.variable.Variable.{Variable}
+use Rattle.dap_session.specs.Moves.{holds, thread_at}
 use Rattle.dap_session.specs.Runs.{RunState, walk_of}
-use Rattle.dap_session.specs.Searches.{AreReportsOf}
+use Rattle.dap_session.specs.Searches.{AreReportsOf, IsPointedAt}
 
 abbrev pub IsBody : Option Value → Data → Type 0
 IsBody body d = option_map view body ≡ Some d
 
--- What a thread does next, as a frame.
-pub record IsFrame (r : RunState) (t : EditorThread) (frame : Data) : Type 0 where
-  pub client : InitializeArguments
+-- What a thread does next.
+pub record IsNext (r : RunState) (t : EditorThread) (frame : Frame) : Type 0 where
   pub map : Option SourceMap
+  pub is_frame : frame ≡ frame_of (walk_of r) t map
+
+-- The instruction of a thread at which a finding points, where the run stops at a finding.
+pub record IsPointed (r : RunState) (t : EditorThread) (frame : Frame) : Type 0 where
+  pub map : Option SourceMap
+  pub step : ThreadStep
+  pub of_thread : t ≡ Thread step.thread
+  pub stops : holds r.marks.findings (walk_of r).at ≡ true
+  pub points : IsPointedAt (walk_of r) (walk_of r).at step
+  pub is_frame : frame ≡ frame_at (walk_of r) step.thread step.instruction map
+
+-- The frame of a thread: what it does next, or where the run stops at a finding, the instruction at
+-- which the finding points.
+abbrev pub IsShown : RunState → EditorThread → Frame → Type 0
+IsShown r t frame = IsNext r t frame ⊎ IsPointed r t frame
+
+-- The same, as JSON.
+pub record IsFrame (r : RunState) (t : EditorThread) (json : Data) : Type 0 where
+  pub client : InitializeArguments
   pub source : Option Data
-  pub is_frame : frame ≡ frame_data client (walk_of r).setup (frame_of (walk_of r) t map) source
+  pub frame : Frame
+  pub is_shown : IsShown r t frame
+  pub is_json : json ≡ frame_data client (walk_of r).setup frame source
 
 -- The only frame of a thread, if the requested page has it.
 abbrev pub ShowsStack : Bool → RunState → EditorThread → Option Value → Type 0

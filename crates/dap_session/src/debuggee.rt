@@ -1,15 +1,19 @@
 //! The run that is debugged, and where it stops.
-ghost use Rattle.std.specs.Prelude.{◌≡◌, []};
+ghost use Rattle.std.specs.Prelude.{◌≡◌, ◌==◌, [], Contains, IfSome, true};
 ghost use Rattle.watches.specs.Watchpoints.{nothing};
+ghost use Rattle.dap_session.specs.Moves.{holds};
 ghost use Rattle.dap_session.specs.Runs.{walk_of};
+ghost use Rattle.dap_session.specs.Searches.{IsPointedAt, IsReportAt};
 
 use crate::base::Base;
+use crate::moving::holds;
 use crate::searched::Searched;
 use crate::wanted::{Wanted, stops_at};
-use dap_messages::{Program, Text};
+use dap_messages::{ExceptionFilter, Program, Text};
 use debug_server::Session;
 use explanations::Report;
 use inverse_log::Walker;
+use sentences::ThreadStep;
 use source_map::SourceMap;
 use std::alloc::{AllocError, Global};
 use std::marker::Model;
@@ -49,8 +53,24 @@ impl Drop for Debuggee {
     }
 }
 
-fn is_at(report: &Report, moment: usize) -> bool {
+fn is_at(report: &Report, moment: usize) -> bool
+    ensures { result ≡ (report.now.finding.moment == moment) }
+{
     report.finding.moment as usize == moment
+}
+
+// Returns the first of some reports at a moment: of those at which the editor stops, if there is
+// one.
+fn first_at<'a>(
+    reports: &'a [Report],
+    filters: &[ExceptionFilter],
+    moment: usize,
+) -> Option<&'a Report>
+    ensures listed { IfSome result (λ report. Contains reports.now report.now) }
+    ensures at { IfSome result (λ report. report.now.finding.moment ≡ moment) }
+{
+    let wanted = reports.iter().find(|report| is_at(report, moment) && stops_at(filters, report));
+    wanted.or(reports.iter().find(|report| is_at(report, moment)))
 }
 
 impl Model for Debuggee {
@@ -119,11 +139,22 @@ impl Debuggee {
 
     /// Returns the first finding at a moment, if the run was searched: of those at which the editor
     /// stops, if there is one.
-    pub(crate) fn report_at(&self, moment: usize) -> Option<&Report> {
+    pub(crate) fn report_at(&self, moment: usize) -> Option<&Report>
+        ensures { IfSome result (λ report. IsReportAt (walk_of self.now) moment report.now) }
+    {
         let filters = self.wanted.filters.as_slice();
-        let reports = self.searched.reports();
-        let wanted = reports.iter().find(|report| is_at(report, moment)
-            && stops_at(filters, report));
-        wanted.or(reports.iter().find(|report| is_at(report, moment)))
+        first_at(self.searched.reports(), filters, moment)
+    }
+
+    /// Returns the instruction of a script at which the finding points at which the run stops at a
+    /// moment. None if it points at the moment's event.
+    pub(crate) fn pointed_at(&self, moment: usize) -> Option<ThreadStep>
+        ensures stops { IfSome result (λ step. holds self.now.marks.findings moment ≡ true) }
+        ensures points { IfSome result (IsPointedAt (walk_of self.now) moment) }
+    {
+        if self.map.is_none() || !holds(&self.marks.findings, moment) {
+            return None;
+        }
+        self.report_at(moment)?.instruction()
     }
 }

@@ -5,15 +5,15 @@ ghost use Rattle.dap_views.specs.Bodies.{evaluate_body, scopes_body, threads_bod
 ghost use Rattle.dap_views.specs.Evaluations.{evaluation};
 ghost use Rattle.dap_session.specs.Moves.{thread_at};
 ghost use Rattle.dap_session.specs.Runs.{walk_of};
-ghost use Rattle.dap_session.specs.Shown.{IsBody, IsFrame, ShowsStack, ShowsVariables};
+ghost use Rattle.dap_session.specs.Shown.{IsBody, IsFrame, IsShown, ShowsStack, ShowsVariables};
 
 use crate::debuggee::Debuggee;
 use crate::members::{Members, object_of};
 use dap_answers::{Reason, Refusal, Reply};
 use dap_messages::{DataBreakpointInfoArguments, StackTraceArguments, VariablesArguments};
 use dap_views::{
-    Page, container_of, evaluate, evaluate_body, frame_of, frame_value, place_named, scopes_body,
-    stack_body, threads_body, variables, variables_body,
+    Frame, Page, container_of, evaluate, evaluate_body, frame_at, frame_of, frame_value,
+    place_named, scopes_body, stack_body, threads_body, variables, variables_body,
 };
 use machine::Event;
 use serde_json::Value;
@@ -84,12 +84,26 @@ impl Debuggee {
         }
     }
 
+    // Returns what a thread does next, or its instruction at which a finding points where the run
+    // stops at it.
+    fn shown_frame(&self, thread: EditorThread) -> Result<Frame, AllocError>
+        ensures { IfOk result (IsShown self.now thread) }
+    {
+        let (walker, map) = (self.walker(), self.map.as_ref());
+        match (thread, self.pointed_at(walker.at())) {
+            (EditorThread::Thread(number), Some(step)) if number == step.thread => {
+                frame_at(self.alloc, walker, number, step.instruction as usize, map)
+            }
+            _ => frame_of(self.alloc, walker, thread, map),
+        }
+    }
+
     // Returns the frame of a thread.
     fn frame(&self, thread: EditorThread) -> Result<Value, AllocError>
         ensures { IfOk result (λ frame. IsFrame self.now thread (view frame)) }
     {
         let walker = self.walker();
-        let frame = frame_of(self.alloc, walker, thread, self.map.as_ref())?;
+        let frame = self.shown_frame(thread)?;
         let source = if self.has_source() {
             Some(self.source_value()?)
         } else {

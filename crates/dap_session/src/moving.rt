@@ -91,8 +91,8 @@ fn watched_moment(stop: Stop) -> Option<usize>
     }
 }
 
-// Returns whether a moment is one of some moments.
-fn holds(moments: &Moments, moment: usize) -> bool
+/// Returns whether a moment is one of some moments.
+pub(crate) fn holds(moments: &Moments, moment: usize) -> bool
     ensures { result ≡ holds moments.now moment }
 {
     moments.as_slice().iter().any(|held| *held == moment)
@@ -259,9 +259,19 @@ impl Debuggee {
         }
     }
 
+    // Returns the thread that an editor shows where a run stops: that of the instruction at which a
+    // finding points, or else the given one.
+    fn pointed_thread(&self, thread: EditorThread, landing: Landing) -> EditorThread {
+        match (landing.cause, self.pointed_at(landing.moment)) {
+            (Cause::Finding, Some(step)) => EditorThread::Thread(step.thread),
+            _ => thread,
+        }
+    }
+
     // Returns the body of the `stopped` event of a run.
     fn landed(&self, thread: EditorThread, landing: Landing) -> Result<Value, AllocError> {
         let why = why_of(landing.cause);
+        let thread = self.pointed_thread(thread, landing);
         let report = match landing.cause {
             Cause::Finding => self.report_at(landing.moment),
             _ => None,

@@ -1,5 +1,5 @@
 //! A run that is debugged, and its findings.
-ghost use Rattle.std.specs.Prelude.{◌≡◌, ◌≤◌, None, length, IfOk, OnOk, OnErr, true, false};
+ghost use Rattle.std.specs.Prelude.{◌≡◌, ◌≤◌, None, [], length, IfOk, OnOk, OnErr, true, false};
 ghost use Rattle.inverse_log.specs.Walks.{jumped};
 ghost use Rattle.debug_server.specs.Replies.{reply};
 ghost use Rattle.debug_server.specs.SessionStates.{walked_to};
@@ -137,8 +137,9 @@ impl Searched {
 
     /// Returns the findings, or none if the run wasn't searched.
     pub(crate) fn reports(&self) -> &[Report]
-        ensures { self.now.is_searched ≡ true
+        ensures searched { self.now.is_searched ≡ true
             → AreReportsOf self.now.session.state.walk result.now }
+        ensures unsearched { self.now.is_searched ≡ false → result.now ≡ [] }
     {
         match &self.reports {
             Some(reports) => reports.as_slice(),

@@ -1,5 +1,5 @@
 -- Why a run isn't explained, from why it isn't read or searched.
-use Rattle.explanations.proofs.Common.{ℕ, List, Scenario, ReportFault, Script, Trace, Schedule, Memory, RunFault, of_reading, Reads, IsUnread, Unexplained, UnexplainedRun}
+use Rattle.explanations.proofs.Common.{ℕ, List, Scenario, ReportFault, Schedule, Memory, RunFault, of_reading, Reads, IsUnread, Unexplained, UnexplainedRun}
 use Rattle.runs.specs.declared.reading.RunFault.TheVariants as unread
 
 pub unexplained_run : (bytes : List ℕ) (p : Scenario) (f : ReportFault) → Reads bytes p → Unexplained p.setup p.schedule f → UnexplainedRun bytes f

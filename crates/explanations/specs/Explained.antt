@@ -2,6 +2,7 @@
 use Rattle.std.specs.Prelude.{◌≡◌, ◌==◌, Bool, not, ◌&&◌, ◌||◌, List, length, ℕ}
 use Rattle.explanations.specs.Common.{list_any, Event, Setup, start, Accepts, IsRefused, Scenario, ReportFault, Script, Trace, Schedule, Write, Memory, Reads, IsUnread, Finding, Kind, IsReportOf, is_fault, have_one_name}
 use Rattle.runs.specs.declared.reading.RunFault.TheVariants as unread
+use Rattle.explanations.specs.declared.explaining.Explanation.{Explanation}
 
 -- Whether a kind has the name of one of some kinds.
 abbrev pub is_among : List Kind → Kind → Bool
@@ -20,17 +21,23 @@ is_fault_of kinds f = is_requested kinds f.kind && is_fault f.kind
 abbrev pub counts : List Kind → List Kind → Finding → Bool
 counts kinds allowed f = is_fault_of kinds f && not (is_among allowed f.kind)
 
--- The result for a run: no event is refused, and `some` says whether a finding counts.
-pub record Explains (s : Setup) (es : List Event) (kinds allowed : List Kind) (some : Bool) : Type 0 where
+-- Whether a run has threads and no event.
+abbrev pub is_unscheduled : Setup → List Event → Bool
+is_unscheduled s es = (length es == 0) && not (length s.threads == 0)
+
+-- The result for a run: no event is refused, it says whether a finding counts, and whether the run
+-- has threads and no event.
+pub record Explains (s : Setup) (es : List Event) (kinds allowed : List Kind) (x : Explanation) : Type 0 where
   pub runs : Accepts (start s) es
   pub found : List Finding
   pub reported : IsReportOf s es found
-  pub faults : some ≡ list_any (counts kinds allowed) found
+  pub faults : x.is_faulty ≡ list_any (counts kinds allowed) found
+  pub unscheduled : x.is_unscheduled ≡ is_unscheduled s es
 
 -- The result for the run that the bytes describe.
-abbrev pub ExplainsRun : List ℕ → List Kind → List Kind → Bool → Type 0
-ExplainsRun bytes kinds allowed some =
-    (p : Scenario) × Reads bytes p × Explains p.setup p.schedule kinds allowed some
+abbrev pub ExplainsRun : List ℕ → List Kind → List Kind → Explanation → Type 0
+ExplainsRun bytes kinds allowed x =
+    (p : Scenario) × Reads bytes p × Explains p.setup p.schedule kinds allowed x
 
 -- ---- why a run isn't explained
 

@@ -2,3 +2,4 @@ pub mod Common
 pub mod Explained
 pub mod ReportLists
 pub mod Locations
+pub mod Subjects

@@ -40,6 +40,8 @@ pub struct Explanation {
     pub text: String,
     /// Whether some of them is a fault that isn't allowed.
     pub is_faulty: bool,
+    /// Whether the run has threads and no event.
+    pub is_unscheduled: bool,
 }
 
 // Returns whether a kind has the name of one of some kinds.
@@ -197,8 +199,8 @@ fn explain_events(
 ) -> Result<Explanation, ReportFault>
     requires starts { setup_refusal setup.now ≡ None }
     requires most { length events.now ≤ 1048576 }
-    ensures ok { IfOk result (λ e. Explains setup.now events.now request.entry.kinds.now
-        request.entry.allowed.now e.is_faulty) }
+    ensures ok { IfOk result (Explains setup.now events.now request.entry.kinds.now
+        request.entry.allowed.now) }
     ensures err { IfErr result (Unexplained setup.now events.now) }
 {
     let Ok(mut state) = State::new(alloc, setup) else {
@@ -217,8 +219,11 @@ fn explain_events(
         found: &found.findings,
     };
     let text = text_of(alloc, bytes, &run, request)?;
-    let is_faulty = has_fault(request.kinds, request.allowed, &found.findings);
-    Ok(Explanation { text, is_faulty })
+    Ok(Explanation {
+        text,
+        is_faulty: has_fault(request.kinds, request.allowed, &found.findings),
+        is_unscheduled: events.is_empty() && !setup.threads.as_slice().is_empty(),
+    })
 }
 
 /// Runs a trace, if the first byte is `U`, or else a script, and reports its findings. Errors: the
@@ -229,8 +234,8 @@ pub fn explain_run(
     bytes: &[u8],
     request: Request<'_>,
 ) -> Result<Explanation, ReportFault>
-    ensures ok { IfOk result (λ e. ExplainsRun bytes.now request.entry.kinds.now
-        request.entry.allowed.now e.is_faulty) }
+    ensures ok { IfOk result (ExplainsRun bytes.now request.entry.kinds.now
+        request.entry.allowed.now) }
     ensures err { IfErr result (UnexplainedRun bytes.now) }
 {
     let run = read_run(alloc, bytes)?;

@@ -7,7 +7,9 @@ mod locating;
 mod naming;
 mod reporting;
 mod sarif;
+mod subjects;
 
 pub use explaining::{Explanation, Form, Request, explain_run};
 pub use naming::{named_fault, named_report};
 pub use reporting::{Report, reports_of};
+pub use subjects::Subject;

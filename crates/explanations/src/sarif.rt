@@ -2,6 +2,7 @@
 
 use crate::locating::{item_of, map_of};
 use crate::naming::json_of;
+use crate::subjects::subject_of;
 use finding_kinds::Finding;
 use percent_encoding::{AsciiSet, NON_ALPHANUMERIC, ascii_set, utf8_percent_encode};
 use sentences::{Run, sentence};
@@ -118,7 +119,7 @@ fn location_of<'a>(
     finding: &Finding,
 ) -> Option<Location<'a>> {
     let source = source?;
-    let item = item_of(&source.map, run, finding)?;
+    let item = item_of(&source.map, subject_of(run, finding))?;
     Some(Location {
         physical_location: PhysicalLocation {
             artifact_location: ArtifactLocation {

@@ -6,7 +6,7 @@ use Rattle.dap_session.proofs.debuggee.Debuggee.set_exceptions.Goals as goal
 
 pub returns-clause-stops : goal.returns-clause-stops
 returns-clause-stops c =
-    let searched = c.reports-reports.ensures c.in_ok-search.ensures.searched in
+    let searched = c.reports-reports.ensures.searched c.in_ok-search.ensures.searched in
     rw (← c.self.view_is) (
       search rules,
       record {
