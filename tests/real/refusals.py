@@ -18,6 +18,7 @@ STEPS = [["step", 0]] * 3
 NOP = [["put", 0, {"op": 0, "ud": 1}], ["push", 0], ["enter", 1, 0, 0]]
 ENDED = [*STEPS, ["issue", 0], ["finish", 0]]
 READ = [["put", 0, {"op": 22, "fd": 3, "len": 4, "ud": 1}], ["push", 0], ["enter", 1, 0, 0]]
+SAME = 0, "same", ""
 FILE = {"objects": [{"name": "f", "file": "61626364"}], "fds": ["f"]}
 
 
@@ -129,9 +130,17 @@ def of_words(it):
     yield "no words", it.run(), (2, "", usage)
     yield "two words", it.run("a", "b"), (2, "", usage)
     yield "help", it.run("--help"), (0, usage, "")
-    yield "a run", it.run(it.script()), (0, "same", "")
+    yield "a run", it.run(it.script()), SAME
     yield "20 seconds", it.run(it.script(threads=[[]], schedule=[["tick", 1]] * 801)), (4, "not settled", "")
-    yield "an early end", it.run(it.script(schedule=STEPS)), (4, "not a kernel's schedule: event 3", "")
+    yield "an early end", it.run(it.script(schedule=STEPS)), SAME
+    poller = {"sqpoll": True, "threads": [[*READ[:2], ["close", 3]]], **FILE}
+    yield "before the poller takes", it.run(it.script(schedule=STEPS[:2], **poller)), SAME
+    yield "a close before the poller takes", it.run(it.script(schedule=STEPS, **poller)), SAME
+    two = [*NOP[:2], ["put", 1, {"op": 0, "ud": 2}], ["push", 1]]
+    one_by_one = [*[["step", 0]] * 4, ["take", 1], ["take", 1], ["issue", 0], ["finish", 0], ["issue", 1], ["finish", 1]]
+    said = 4, "not a kernel's schedule: event 4: a poller takes by itself", ""
+    yield "a poller that takes one by one", it.run(it.script(sqpoll=True, threads=[two], schedule=one_by_one)), said
+    yield "a poller that sleeps", it.run(f"{TOP}/examples/lost_wake_up/script.json"), SAME
     for name, keys in (("a fault", {"entries": 0}), ("a refused event", {"schedule": [["issue", 0]]})):
         path = it.script(**keys)
         yield name, it.run(path), it.walks(path)

@@ -4,6 +4,7 @@ Each rule looks at the script, at the place that differs and at both values. A d
 a name. First the completions are looked at, each by the entry with its user_data; then what follows from those: other
 requests of the same chain, object or submission, ring words, results of calls, and bytes."""
 import traces
+from model import SQPOLL
 from traces import ENTER, EVENTFD, FILE, PIPE
 
 NOP, FSYNC, POLL, POLL_REMOVE, TIMEOUT, REMOVE, CANCEL, LINK_TIMEOUT, READ, WRITE = 0, 3, 6, 7, 11, 12, 14, 15, 22, 23
@@ -136,16 +137,6 @@ def full_eventfd(context, entry, ours, theirs):
             and not theirs and ours in ([8], [EINVAL]))
 
 
-def early_cancel(context, entry):
-    """Whether this is a cancel of a later request of its own submission, or such a request."""
-    for row in context.rows:
-        targets = [it.entry for it in context.rows
-                   if it.taken == row.taken and it.number > row.number and meets(row.entry, it.entry)]
-        if row.entry.op in REMOVALS and targets and entry in (row.entry, *targets):
-            return True
-    return False
-
-
 def meets(cancel, entry):
     if cancel.op == CANCEL and cancel.opflags & 2:
         return entry.fd == cancel.fd and entry.op in (READ, WRITE, POLL)
@@ -228,6 +219,19 @@ def counts_more(context, entry, ours, theirs):
     return entry.op == TIMEOUT and entry.off and 0 in (ours + theirs) and (canceled or context.has(LINK_TIMEOUT))
 
 
+def counts_its_submission(context, entry, ours, theirs):
+    """Whether a TIMEOUT counts, on a kernel alone, completions of earlier requests of its own submission."""
+    rows = [row for row in context.rows if row.entry == entry]
+    earlier = [other for row in rows for other in context.rows if other.taken == row.taken and other.number < row.number]
+    return entry.op == TIMEOUT and entry.off and theirs == [0] and ours != theirs and any(it.result is not None for it in earlier)
+
+
+def finds_itself(entry, ours, theirs):
+    """Whether a worker carries out a cancel that matches itself."""
+    own = not entry.opflags & 2 and entry.addr == entry.user_data
+    return entry.op == CANCEL and own and ours == [ENOENT] and theirs == [EALREADY]
+
+
 def name_of_completion(context, it):
     """Returns the item that explains the completions of a user_data, or an empty text."""
     ours, theirs = it.ours, it.theirs
@@ -238,9 +242,10 @@ def name_of_completion(context, it):
                  ("full-eventfd", full_eventfd(context, entry, ours, theirs)),
                  ("partial-buffer", lost_counter(context, entry)),
                  ("waiting-order", overtakes(context, entry, ours, theirs)),
-                 ("early-cancel", early_cancel(context, entry)),
                  ("youngest-first", several_matches(context, entry)),
                  ("completion-clock", counts_more(context, entry, ours, theirs)),
+                 ("submission-count", counts_its_submission(context, entry, ours, theirs)),
+                 ("cancel-itself", finds_itself(entry, ours, theirs)),
                  ("worker-order", min([*ours, *theirs, 0]) == 0 and ours and theirs and after_worker(context, entry)),
                  ("chain-after-drain", chain_after_drain(context, entry, ours, theirs)),
                  ("longer-drain", longer_drain(context, entry, ours, theirs))]
@@ -275,9 +280,18 @@ def own_name_of_call(context, it):
         return "no-ebusy"
     if it.ours == [str(EINVAL)] and call < len(calls) and len(calls[call]) == 3 and calls[call][2] & ~3:
         return "enter-flags"
-    if it.ours == ["waits"] and context.has_ended_timeout() and it.theirs and it.theirs[0].isdigit():
-        return "timeout-return"
+    if it.ours == ["waits"] and it.theirs and it.theirs[0].isdigit():
+        if context.has_ended_timeout():
+            return "timeout-return"
+        if reaps_elsewhere(context, thread):
+            return "reaped-wait"
     return ""
+
+
+def reaps_elsewhere(context, thread):
+    """Whether another thread reaps completions."""
+    others = [program for number, program in enumerate(context.setup.threads) if number != thread]
+    return any(kind == traces.REAP for program in others for kind, *_ in program)
 
 
 def name_of_rest(context, it):
@@ -289,7 +303,7 @@ def name_of_rest(context, it):
                 near = other.unit == row.unit or context.object_of(other.entry.fd) == context.object_of(entry.fd) is not None
                 if other is not row and near and other.entry.user_data in context.named:
                     return context.named[other.entry.user_data]
-    missing = not it.ours or not it.theirs
+    missing = min(len(it.ours), len(it.theirs)) < len(context.of_user(it.subject[1]))
     return stop_of_submission(context) if missing or after_failure(context, it) else ""
 
 
@@ -313,9 +327,18 @@ def name_of_bytes(context, it):
     return ""
 
 
+def name_of_flush(context):
+    """Returns the item that explains why a completion is in the ring here, and in the backlog on the kernel, or the reverse."""
+    if len(context.state.sequence()) <= context.setup.completions:
+        return ""
+    return "poller-timing" if context.setup.options & SQPOLL else "submission-flush"
+
+
 def name_of_word(context, it):
     if it.subject[1] == "sq.head":
         return stop_of_submission(context)
+    if not any(other.subject[0] in ("completion", "call") for other in context.found):
+        return name_of_flush(context)
     counted = [it for it in context.found if it.subject[0] == "completion" and len(it.ours) != len(it.theirs)]
     names = {other.name for other in counted}
     calls = [other.name for other in context.found if other.subject[0] == "call"]

@@ -12,6 +12,7 @@ WIDTHS = {"sq.head": 1, "sq.tail": 1, "cq.head": 1, "cq.tail": 1, "sq.flags": 1,
 EVENT = re.compile(r"\d+ ([a-z]+)")
 REFUSED = re.compile(r"fault schedule (\d+) \d+")
 TIMERS = (11, 15)
+SQPOLL = 1
 
 
 class Fault(Exception):
@@ -32,6 +33,7 @@ class Row:
     unit: int
     phase: str = "queued"
     issued: int = None
+    ended: int = None
     result: int = None
 
 
@@ -42,6 +44,7 @@ class State:
         self.setup = setup
         self.memory = bytearray(setup.memory)
         self.files = {it.name: bytearray(it.contents) for it in setup.objects if it.kind == traces.FILE}
+        self.durable = {name: bytearray(contents) for name, contents in self.files.items()}
         self.words = {"sq.head": 0, "sq.tail": 0, "cq.head": 0, "cq.tail": 0, "bfront": 0, "clock": 0}
         self.array, self.slots, self.posted, self.backlog = {}, {}, {}, {}
         self.rows = []
@@ -50,6 +53,7 @@ class State:
         self.last = [0 for _ in setup.threads]
         self.next = [0 for _ in setup.threads]
         self.waits = [False for _ in setup.threads]
+        self.awake = bool(setup.options & SQPOLL)
 
     def produced(self):
         """Returns how many completions there are, with those of the backlog."""
@@ -104,6 +108,12 @@ class State:
             put_bytes(self.files[names[0]], names[1], new)
         elif word == "len":
             resize(self.files[names[0]], int(new))
+        elif word == "durable":
+            put_bytes(self.durable[names[0]], names[1], new)
+        elif word == "dlen":
+            resize(self.durable[names[0]], int(new))
+        elif word == "poller":
+            self.awake = new == "awake"
         elif word in ("pc", "last", "stage"):
             self.set_thread(word, int(names[0]), new)
 
@@ -124,7 +134,7 @@ class State:
         if it.phase == "issued":
             it.issued = number
         if it.phase == "ended":
-            it.result = int(words[7])
+            it.ended, it.result = number, int(words[7])
 
 
 def completion(raw):
@@ -208,4 +218,20 @@ class Run:
         state = self.state
         words = state.words
         return {"clock": words["clock"], "produced": state.produced(), "tail": words["cq.tail"],
-                "next": list(state.next), "waits": list(state.waits), "waiting": words["sq.tail"] - words["sq.head"]}
+                "next": list(state.next), "waits": list(state.waits), "waiting": words["sq.tail"] - words["sq.head"],
+                "awake": state.awake}
+
+    def before(self, index, thread):
+        """Returns a thread's next instruction before an event, and whether it waits."""
+        if index == 0:
+            return 0, False
+        moment = self.moments[index - 1]
+        return moment["next"][thread], moment["waits"][thread]
+
+    def calls(self, index):
+        """Returns whether an event is a step of a thread that begins a call."""
+        event = self.events[index]
+        if event.kind != "step":
+            return False
+        at, waits = self.before(index, event.number)
+        return not waits and self.setup.threads[event.number][at][0] in (traces.ENTER, traces.CLOSE)

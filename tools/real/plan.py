@@ -4,7 +4,6 @@ The model's clock moves by ticks alone. A tick becomes a wait in which the times
 at least GROUP apart; a time that no tick reaches comes never."""
 import struct
 
-import traces
 from model import TIMERS
 
 MILLISECOND = 1000000
@@ -52,7 +51,7 @@ class Plan:
                 since = self.length
                 if event.kind == "tick":
                     self.length += self.reach(clock, moment["clock"])
-                elif event.kind == "take" or self.acts(index, event.number):
+                elif event.kind == "take" or self.run.calls(index):
                     self.length += SETTLING
                 self.lines.append(f"event {index} {int(self.is_second(index, event))} {self.length} {self.posted_by(index)}")
             elif event.kind == "expire":
@@ -67,19 +66,8 @@ class Plan:
             self.coming[due] = self.length + number * GROUP
         return (len(times) + 1) * GROUP
 
-    def before(self, index, thread):
-        """Returns a thread's next instruction before an event, and whether it waits."""
-        if index == 0:
-            return 0, False
-        moment = self.run.moments[index - 1]
-        return moment["next"][thread], moment["waits"][thread]
-
     def is_second(self, index, event):
-        return event.kind == "step" and self.before(index, event.number)[1]
-
-    def acts(self, index, thread):
-        at, waits = self.before(index, thread)
-        return not waits and self.setup.threads[thread][at][0] in (traces.ENTER, traces.CLOSE)
+        return event.kind == "step" and self.run.before(index, event.number)[1]
 
     def posted_by(self, index):
         """Returns how many completions were posted before the next event of a thread, the poller or the clock."""

@@ -18,6 +18,7 @@ import kernel  # noqa: E402
 import known  # noqa: E402
 import model  # noqa: E402
 import plan  # noqa: E402
+import prompt  # noqa: E402
 import traces  # noqa: E402
 
 SAME, UNWRITTEN, WORDS, DIFFERS, OTHER_SCHEDULE, UNABLE = 0, 1, 2, 3, 4, 69
@@ -28,20 +29,27 @@ LIMIT = 20 * 10 ** 9
 USAGE = """Usage: uringwalk-real SCRIPT
 
 Runs the threads of a script on the io_uring of this machine, and compares what happens with the model. The run that it
-compares is the schedule's steps, takes and ticks, and after each all that a kernel can do by then. It needs python3 and cc,
-and no rights. It is outside the proved program. In a clone it is ./uringwalk real SCRIPT.
+compares is the schedule's steps, takes and ticks, and after each all that a kernel does by then. A schedule that ends early
+continues with what a kernel does by itself. It needs python3 and cc, and no rights. It is outside the proved program. In a
+clone it is ./uringwalk real SCRIPT.
 
 The first line is one of:
   same                             completions, results of calls, ring words, memory and files
   same, other order                the same, but completions were posted in another order
   differs                          followed by a line WHAT here X, kernel Y for each difference; known: NAME is the
                                    item of docs/DECISIONS.md that explains it
-  not a kernel's schedule: event I a kernel that never dawdles completes requests otherwise than the schedule
+  not a kernel's schedule: event I: WHY
+                                   the schedule completes requests otherwise than a kernel can
+  a kernel may choose otherwise: event I
+                                   and this one can't be asked for the schedule's choice
+  nothing to run: the schedule is empty
   not settled                      the run takes more than 20 seconds
   can't be run here: REASON
 
+Where the schedule completes otherwise than the run that is compared, a second line says how that run compares.
+
 Status: 0 if it is the same, 1 for a fault of the script or the output, 2 for a fault of the words, 3 if it differs, 4 if the
-schedule is not a kernel's or the run didn't settle, 69 if it can't be run here.
+schedule is empty or is not the run that is compared, or if that didn't settle, 69 if it can't be run here.
 """
 
 
@@ -84,6 +92,15 @@ def check_schedule(schedule):
         raise unable("the clock passes a minute")
 
 
+def why_other(plain, other):
+    """Returns why a schedule completes otherwise than its eager run. A prompt one is a kernel's."""
+    late = prompt.Schedule(plain).first_late()
+    if late is None:
+        return f"a kernel may choose otherwise: event {other.index}"
+    index, why = min(late, (other.index, other.why)) if other.why else late
+    return f"not a kernel's schedule: event {index}: {why}"
+
+
 class Trial:
     """A script, its eager run, and the folder for files."""
 
@@ -93,21 +110,30 @@ class Trial:
         self.program.run("trace", script, path)
         with open(path, "rb") as it:
             self.setup, self.schedule = traces.read(it.read())
+        if not self.schedule:
+            raise Verdict(["nothing to run: the schedule is empty"], OTHER_SCHEDULE)
         check_setup(self.setup)
         check_schedule(self.schedule)
         self.built = built
-        self.eager = self.eager_run(script)
-        self.plan = plan.Plan(self.eager)
-
-    def eager_run(self, script):
         plain = model.Run(self.program, self.setup)
         plain.extend(self.schedule)
         if self.least_length(plain) > LIMIT:
             raise kernel.NotSettled
         try:
-            return eager.made(self.program, script, self.setup, self.schedule)
+            run = eager.made(self.program, script, self.setup)
         except eager.OtherSchedule as it:
-            raise Verdict([f"not a kernel's schedule: event {it.index}"], OTHER_SCHEDULE) from it
+            raise Verdict([why_other(plain, it), f"the eager run: event {it.index} is refused"], OTHER_SCHEDULE) from it
+        self.other = self.otherness(run, plain)
+        self.eager = eager.settled(self.program, script, run, plain)
+        self.plan = plan.Plan(self.eager)
+
+    def otherness(self, run, plain):
+        """Returns why the schedule isn't its eager run, or None where it completes as that does."""
+        try:
+            eager.check(run, plain)
+        except eager.OtherSchedule as it:
+            return why_other(plain, it)
+        return None
 
     def least_length(self, plain):
         """Returns a time that the run takes at least: that of the calls, takes and ticks of the schedule's own run."""
@@ -124,7 +150,14 @@ class Trial:
         return found, compare.is_in_order(self.eager.state, outcome)
 
     def verdict(self):
-        """Returns what is printed, and the status. A script differs if it does each time."""
+        """Returns what is printed, and the status."""
+        lines, status = self.comparison()
+        if self.other is None:
+            return lines, status
+        return [self.other, f"the eager run: {lines[0]}", *lines[1:]], OTHER_SCHEDULE
+
+    def comparison(self):
+        """Returns how the eager run compares, and the status of that. It differs if it does each time."""
         if self.plan.length > LIMIT:
             raise kernel.NotSettled
         for _ in range(TRIES):
