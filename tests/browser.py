@@ -10,6 +10,9 @@ import signal
 import subprocess
 import tempfile
 
+# Frames of another origin are attached to. What their script throws before that is reported then.
+FRAMES = {"autoAttach": True, "waitForDebuggerOnStart": False, "flatten": True, "filter": [{"type": "iframe"}]}
+QUIET = {"stdin": subprocess.DEVNULL, "stdout": subprocess.DEVNULL, "stderr": subprocess.DEVNULL}
 NAMES = ("chromium", "chromium-browser", "google-chrome")
 KEY_CODES = {"ArrowLeft": 37, "ArrowUp": 38, "ArrowRight": 39, "ArrowDown": 40, "Home": 36, "End": 35, "PageUp": 33, "PageDown": 34,
              "Enter": 13, "Escape": 27, "Tab": 9}
@@ -18,6 +21,15 @@ KEY_CODES = {"ArrowLeft": 37, "ArrowUp": 38, "ArrowRight": 39, "ArrowDown": 40, 
 def program():
     """Returns the path of Chromium, or None where it is not installed."""
     return next((path for path in map(shutil.which, NAMES) if path), None)
+
+
+def end(child):
+    """Ends a process, and those that it has started."""
+    try:
+        os.killpg(child.pid, signal.SIGKILL)
+    except ProcessLookupError:
+        pass
+    child.wait()
 
 
 class PageFault(AssertionError):
@@ -35,8 +47,7 @@ class Browser:
         words = [program(), "--headless=new", "--no-sandbox", "--disable-gpu", "--disable-dev-shm-usage", "--no-first-run",
                  "--hide-scrollbars", "--remote-debugging-pipe", f"--user-data-dir={self.room}", "about:blank"]
         shell = ["bash", "-c", f'exec "$@" 3<&{theirs_in} 4>&{theirs_out}', "bash"]
-        quiet = {"stdin": subprocess.DEVNULL, "stdout": subprocess.DEVNULL, "stderr": subprocess.DEVNULL}
-        self.child = subprocess.Popen(shell + words, pass_fds=(theirs_in, theirs_out), start_new_session=True, **quiet)
+        self.child = subprocess.Popen(shell + words, pass_fds=(theirs_in, theirs_out), start_new_session=True, **QUIET)
         for fd in (theirs_in, theirs_out):
             os.close(fd)
         self.reader, self.writer = ours_in, os.fdopen(ours_out, "wb")
@@ -44,17 +55,14 @@ class Browser:
         self.session = self.call("Target.attachToTarget", targetId=target, flatten=True)["sessionId"]
         self.call("Page.enable")
         self.call("Runtime.enable")
+        self.call("Target.setAutoAttach", **FRAMES)
         self.resize(width, height)
 
     def __enter__(self):
         return self
 
     def __exit__(self, *_):
-        try:
-            os.killpg(self.child.pid, signal.SIGKILL)
-        except ProcessLookupError:
-            pass
-        self.child.wait()
+        end(self.child)
         shutil.rmtree(self.room, ignore_errors=True)
 
     def receive(self):
@@ -70,18 +78,25 @@ class Browser:
         if message.get("method") == "Runtime.exceptionThrown":
             details = message["params"]["exceptionDetails"]
             self.faults.append(details.get("exception", {}).get("description", details["text"]))
+        elif message.get("method") == "Target.attachedToTarget" and message.get("sessionId"):
+            frame = message["params"]["sessionId"]
+            self.send(frame, "Runtime.enable", {})
+            self.send(frame, "Target.setAutoAttach", FRAMES)
+
+    def send(self, session, method, params):
+        """Sends a call, and returns its number."""
+        self.last += 1
+        message = {"id": self.last, "method": method, "params": params, **({"sessionId": session} if session else {})}
+        self.writer.write(json.dumps(message).encode() + b"\0")
+        self.writer.flush()
+        return self.last
 
     def call(self, method, **params):
         """Calls a method of the protocol, and returns its result."""
-        self.last += 1
-        message = {"id": self.last, "method": method, "params": params}
-        if self.session:
-            message["sessionId"] = self.session
-        self.writer.write(json.dumps(message).encode() + b"\0")
-        self.writer.flush()
+        sent = self.send(self.session, method, params)
         while True:
             answer = self.receive()
-            if answer.get("id") == self.last:
+            if answer.get("id") == sent:
                 if "error" in answer:
                     raise PageFault(f"{method}: {answer['error']}")
                 return answer["result"]
@@ -95,16 +110,19 @@ class Browser:
         self.call("Emulation.setEmulatedMedia", features=[{"name": "prefers-color-scheme", "value": scheme}])
 
     def open(self, path, fragment=""):
-        """Opens a file, and waits until its script has run. Raises what the script throws."""
-        self.faults = []
+        """Opens a file, and waits until its script has run. Raises what the script throws, or that of the page before has."""
+        self.check()
         self.call("Page.navigate", url="about:blank")
+        self.faults = []
         self.call("Page.navigate", url=f"file://{path}{fragment}")
         self.js("new Promise((done) => document.readyState === 'complete' ? done() : window.addEventListener('load', done))")
         self.check()
 
     def check(self):
-        if self.faults:
-            raise PageFault(self.faults[0])
+        """Raises the first fault since the last check."""
+        faults, self.faults = self.faults, []
+        if faults:
+            raise PageFault(faults[0])
 
     def js(self, text):
         """Returns the value of an expression of the page."""

@@ -1,0 +1,144 @@
+// ---- what happens after each edit: the script is checked, and where it runs, explained and drawn
+
+// How long after a key the script is checked, in milliseconds.
+const QUIET = 200;
+let caller = null, edit = 0, quiet_timer = null;
+const script_files = () => ({[NAME]: encode(text.value)});
+
+// Runs the program for an edit. Returns null where a newer edit has come.
+async function run_for(mine, words) {
+  const done = await caller.run(words, script_files());
+  if (!done || mine !== edit) return null;
+  if (done.status === null) show_failure(done);
+  return done.status === null ? null : done;
+}
+
+// Shows why there is no answer. Nothing of an earlier one stays as if it were this script's.
+function show_failure(done, why = 'The program gave no answer.') {
+  findings = [];
+  if (done.status === null) show_problems('');
+  by_id('findings').innerHTML = `<li class="faint">${why}</li>`;
+  by_id('hint').textContent = '';
+  mark_old_picture();
+  report((done.err || done.out).trim() || `the program ended with status ${done.status}`, true);
+}
+
+function show_refusal(done) {
+  const {length} = editor.problems;
+  show_failure(done, length ? 'The script has problems.' : undefined);
+  if (length) report(counted(length, 'problem'), true);
+}
+
+// Draws the run, or the part of it around the moment.
+async function draw_run(mine = edit) {
+  const part = part_of(editor.events.length), words = ['timeline', NAME, 'run.html'];
+  const ends = part.to - part.from < editor.events.length ? ['--from', `${part.from}`, '--to', `${part.to}`] : [];
+  const done = await run_for(mine, [...words, ...ends]);
+  if (!done) return;
+  if (done.status === 0 && done.files['run.html']) load_picture(done.files['run.html'], part);
+  else show_failure(done);
+}
+
+// Shows the findings of the run, and returns whether the program listed them.
+async function explain_run(mine) {
+  const answers = [];
+  for (const form of ['--json', '--sarif']) {
+    const done = await run_for(mine, ['explain', NAME, form]);
+    if (!done) return false;
+    if (done.status !== 0 && done.status !== FOUND) {
+      show_failure(done);
+      return false;
+    }
+    answers.push(done);
+  }
+  show_findings(answers[0].out, answers[1].out);
+  by_id('hint').textContent = answers[0].err ? 'The schedule is empty: Explore makes some.' : '';
+  return true;
+}
+
+// Checks the script, and shows what is new. Calls of an older edit are dropped.
+async function check_script() {
+  if (!caller) return;
+  edit += 1;
+  const mine = edit;
+  caller.drop();
+  const done = await run_for(mine, ['check', NAME]);
+  if (done) show_problems(done.out);
+  if (done && done.status !== 0) show_refusal(done);
+  else if (done && await explain_run(mine)) await draw_run(mine);
+  document.body.dataset.checked = mine;
+}
+
+function take_edit() {
+  read_text();
+  complete();
+  draw_text();
+  clearTimeout(quiet_timer);
+  quiet_timer = setTimeout(check_script, QUIET);
+  mark_answers();
+  if (text.value !== stories[0].script) by_id('visit').hidden = true;
+}
+text.addEventListener('input', take_edit);
+
+// Texts that another one has replaced, the newest last. The browser's own undo knows nothing of them.
+const replaced = [], MOST_KEPT = 10;
+function keep_text(before, after) {
+  if (before && before !== after) replaced.push({before, after});
+  if (replaced.length > MOST_KEPT) replaced.shift();
+}
+
+// Puts back the text before the last that was replaced. The present one is kept where it was edited.
+function bring_back() {
+  const {before, after} = replaced.pop();
+  if (text.value !== after) keep_text(text.value, before);
+  set_script(before, false);
+  text.focus();
+}
+
+// Brings the text before back, as the key for undo does where the browser has nothing to undo. Returns whether it did.
+function undo_replacing(e) {
+  if (e.key !== 'z' || !(e.ctrlKey || e.metaKey) || e.shiftKey || e.altKey) return false;
+  if (!replaced.length || replaced[replaced.length - 1].after !== text.value) return false;
+  e.preventDefault();
+  bring_back();
+  return true;
+}
+by_id('before').addEventListener('click', bring_back);
+
+// Marks the answers of Walk and Explore that an edit of the script has made old.
+function mark_answers() {
+  for (const [id, script] of [['replies', session.script], ['found', searched]]) {
+    by_id(id).classList.toggle('older', script !== null && script !== text.value);
+  }
+}
+
+// Nothing that was shown of another script stays, but its picture, which is marked.
+function clear_answers() {
+  for (const id of ['rate', 'found', 'story', 'hint', 'findings']) by_id(id).textContent = '';
+  findings = [];
+  close_choices();
+  begin_session();
+  mark_old_picture();
+  if (caller) report('checking');
+}
+
+// Puts another script into the editor. What was shown of the old one goes.
+function set_script(value, is_kept = true) {
+  const before = text.value;
+  text.value = value;
+  if (is_kept) keep_text(before, text.value);
+  by_id('before').hidden = replaced.length === 0;
+  text.setSelectionRange(0, 0);
+  clearTimeout(quiet_timer);
+  if (search) stop_search();
+  clear_answers();
+  if (value.includes('\r')) by_id('story').textContent = 'Its line ends, CR LF, are LF here, and in what is saved.';
+  by_id('visit').hidden = value !== stories[0].script;
+  Object.assign(editor, {moment: null, problems: []});
+  Object.assign(timeline, {moment: null, asked: null});
+  read_text();
+  text.scrollTop = 0;
+  measure_editor();
+  show_problems('');
+  return check_script();
+}

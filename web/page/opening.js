@@ -1,0 +1,22 @@
+// ---- opening: the program is compiled, and then what the editor has is checked: the script of the link, or the page's own
+
+const LACKS = 'This browser lacks DecompressionStream: open the page in Chromium 103, Firefox 113, Safari 16.4 or a later one.';
+
+async function open_page() {
+  show_pane('findings');
+  if (is_narrow()) show_pane('script');
+  show_searching(false);
+  set_script(embedded('first_script'));
+  const own = text.value;
+  if (typeof DecompressionStream === 'undefined') {
+    report(LACKS, true);
+    return;
+  }
+  const linked = await linked_script();
+  if (linked !== null) set_script(linked, text.value !== own);
+  program = await compile_program();
+  caller = new Caller();
+  await check_script();
+  document.body.dataset.opened = Math.round(performance.now());
+}
+open_page().catch((error) => report(`This browser can't run the program: ${error.message}`, true));
