@@ -5,7 +5,7 @@ usage: tools/build.py
        tools/build.py --prove CRATE JOBS    proves one crate, over libraries that are built
 
 The crates with the longest chain of others above them are proved first. A crate also gets the processors that no other crate
-could use meanwhile. What was proved before, and hasn't changed, is taken from out/, so an interrupted build continues. At the
+could use as it starts, or meanwhile. What was proved before, and hasn't changed, is taken from out/, so an interrupted build continues. At the
 end the programs that were compiled without a proof are removed.
 """
 import functools
@@ -43,15 +43,24 @@ def load_rtlib():
     made = importlib.util.module_from_spec(importlib.util.spec_from_loader("rtlib", loader))
     sys.modules["rtlib"] = made
     loader.exec_module(made)
-    has_all = all(hasattr(made, name) for name in ("lock", "stop_on_links", "stop", "Crate"))
+    has_all = all(hasattr(made, name) for name in ("lock", "stop_on_links", "stop", "guarded", "sum_of", "Crate"))
     return made if has_all and all(hasattr(made.Crate, name) for name in CALLS) else None
 
 
-def prove(name, jobs):
-    """Builds a crate as `rt lib` and `rt run` do, and returns the exit status.
+def is_new(crate):
+    """Whether a library is built of the present text."""
+    return crate.is_built()
 
-    These lock every crate below, so that two of them never run side by side, and sum the sources of a library anew for each
-    crate above it, which takes minutes for the highest crates."""
+
+def is_there(crate):
+    """Whether a library is built, of the present text or an older one. The gate leaves libraries without their sums."""
+    return os.path.isdir(crate.rlib)
+
+
+def open_crate(name, is_fit=is_new):
+    """Returns a crate as the kit's commands see it, locked, over libraries that are fit. Its folder becomes the current one.
+
+    The kit sums the sources of a library anew for each crate above it, which takes minutes for the highest crates."""
     folder, rtlib, sums = f"{crates.TOP}/crates/{name}", load_rtlib(), {}
     sum_anew = rtlib.Crate.stamp
 
@@ -68,12 +77,51 @@ def prove(name, jobs):
     crate.held = rtlib.lock([crate])
     for it in [*crate.below(), crate]:
         rtlib.stop_on_links(it.folder)
-    if not all(it.is_built() for it in crate.below()):
+    if not all(is_fit(it) for it in crate.below()):
         rtlib.stop(f"a library below {name} isn't built")
     os.makedirs("out", exist_ok=True)
+    return crate
+
+
+def sums_below(crate):
+    """Returns the sums of the libraries below, as text."""
+    return "".join(f"{it.name} {load_rtlib().sum_of(f'{it.rlib}/format')}\n" for it in crate.below())
+
+
+def read(path):
+    """Returns a file's text, or None where there is none."""
+    try:
+        with open(path, encoding="utf-8") as file:
+            return file.read()
+    except FileNotFoundError:
+        return None
+
+
+def prove_library(crate, jobs):
+    """Builds a library that has the statements of its proofs alone, and returns the exit status.
+
+    It is much smaller, and the crates above load it faster. It fits the libraries alone over which it was built."""
+    kept, stamp, below = "out/rlib/below", crate.stamp(), sums_below(crate)
+    if crate.is_built() and read(kept) == below:
+        return 0
+    type(crate).cuts_libraries = True
+    load_rtlib().guarded()  # its first call sets a signal's handler, which only the main thread may
+    status = crate.build_rlib(["--jobs", jobs], anew=True)
+    if status == 0 and crate.stamp() == stamp:
+        for path, text in ((kept, below), ("out/rlib/stamp", stamp)):
+            with open(path, "w", encoding="utf-8") as file:
+                file.write(text)
+    return status
+
+
+def prove(name, jobs):
+    """Builds a crate, and returns the exit status.
+
+    `rt lib` and `rt run` lock every crate below, so that two of them never run side by side."""
+    crate = open_crate(name)
     if crate.is_program:
         return crate.run(["--jobs", jobs], ["walk", EXAMPLE], tests=False)
-    return crate.build_rlib(["--jobs", jobs], anew=False)
+    return prove_library(crate, jobs)
 
 
 def words_of(name, jobs):
@@ -125,10 +173,12 @@ class Build:
 
     def start_more(self, pool, room):
         """Starts crates whose libraries are proved, as long as a lane is free."""
-        for name in [name for name in self.left if all(used in self.done for used in self.libraries(name))]:
-            if sum(jobs for _, jobs, _ in self.running.values()) >= self.lanes:
+        ready = [name for name in self.left if all(used in self.done for used in self.libraries(name))]
+        for later, name in zip(reversed(range(len(ready))), ready):
+            free = self.lanes - sum(jobs for _, jobs, _ in self.running.values())
+            if free < 1:
                 return
-            jobs = self.jobs_of(name)
+            jobs = max(min(MOST_JOBS, free - later), self.jobs_of(name))
             self.left.remove(name)
             self.last_start = time.time()
             self.running[pool.submit(self.prove, name, jobs, f"{room}/{name}")] = name, jobs, time.monotonic()
@@ -138,7 +188,8 @@ class Build:
         return [*self.left, *(name for name, _, _ in self.running.values())]
 
     def jobs_of(self, name):
-        """Returns how many processors a crate gets: one, and those for which the crates that don't need it are too small.
+        """Returns how many processors a crate gets, also where fewer are free: one, and those for which the crates that don't need
+        it are too small.
 
         Small crates that were started before it may run beside these jobs for a short while."""
         others = [it for it in self.waiting() if it != name and name not in self.below[it]]
