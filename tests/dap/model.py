@@ -18,6 +18,12 @@ POLLED = {
         [["put", 1, {"op": 0, "ud": 2}], ["push", 1], ["enter", 0, 1, 1], ["reap"]]],
     "schedule": [["step", 0], ["step", 1], ["step", 0], ["take", 1], ["step", 1], ["take", 1], ["issue", 0], ["issue", 1],
                  ["finish", 1], ["step", 1], ["step", 1], ["finish", 0], ["step", 0], ["sleep"]]}
+# A thread waits for a READ that never completes, and another one is stuck.
+HELD = {
+    "entries": 2, "objects": [{"name": "p", "pipe": 8}], "fds": ["p:r", "p:w"], "threads": [
+        [["put", 0, {"op": 22, "fd": 3, "len": 4, "ud": 1}], ["push", 0], ["enter", 1, 1, 1]],
+        [["store", 64, "00"], ["reap"]]],
+    "schedule": [["step", 0], ["step", 1], ["step", 0], ["step", 0], ["issue", 0], ["tick", 1]]}
 # As many files as a script may have, each as long as it may be.
 MOST_OBJECTS = 32
 MOST_BYTES = 65536

@@ -1,9 +1,13 @@
 """Where runs of an editor stop: breakpoints of each kind, findings, targets, and lines of the console."""
 
+import json
+import re
+
 from adapter import Adapter, RUN
 from walking import jump
 
 MOST_DATA = 64
+WRITE = 23
 
 
 def nearest(moments, at, forward):
@@ -139,6 +143,25 @@ def other_breakpoints(checks, adapter, run):
     checks.same("addresses of events", [int(it["address"], 0) for it in window[2:]], list(range(6)))
 
 
+def instruction_of(run, finding):
+    """Returns the instruction at which a finding points whose moment no event shows, or None."""
+    threads = run.script["threads"]
+    if finding["kind"] in ("waits", "stuck"):
+        return threads[finding["threads"][0]][int(re.search(r"instruction (\d+)", finding["text"])[1])]
+    put = finding["put"][0] if finding["kind"] == "unfinished" else None
+    return threads[put["thread"]][put["instruction"]] if put else None
+
+
+def pointed(checks, adapter, run, finding, stopped):
+    """Holds that an editor shows the instruction at which a finding points, if no event at its moment shows it."""
+    frame = adapter.body("stackTrace", threadId=stopped["threadId"])["stackFrames"][0]
+    if instruction := instruction_of(run, finding):
+        checks.same(f"{finding['kind']} points at", json.loads(run.text_of(frame)), instruction)
+    elif finding["kind"] == "not-durable" and "source" in frame:
+        word, _, entry = json.loads(run.text_of(frame))
+        checks.same("not-durable points at a WRITE", (word, entry["op"]), ("put", WRITE))
+
+
 def findings(checks, adapter, run):
     """Stops at faults and at notes."""
     for filters in (["faults"], ["notes"], ["faults", "notes"]):
@@ -156,6 +179,8 @@ def findings(checks, adapter, run):
             info = adapter.body("exceptionInfo", threadId=RUN)
             checks.same(f"{filters}: the exception at {at}", (info["exceptionId"], info.get("description")),
                         (here[0]["kind"], here[0]["text"]))
+            if run.script:
+                pointed(checks, adapter, run, here[0], stopped)
     adapter.body("setExceptionBreakpoints", filters=[])
 
 
