@@ -34,9 +34,9 @@ fill_in() {
   sed -e "s/@VERSION@/$version/g" -e "s/@KIT@/$kit/g" "$top/install/$1" >"$2" && chmod 644 "$2"
 }
 
-# Makes a tree of all files that are installed, as they are below PREFIX, and the list of them.
+# Makes a tree of all files that are installed, as they are below PREFIX, and the list of them. A page goes with them.
 make_tree() {
-  local tree=$1 share=$1/share file
+  local tree=$1 page=${2-} share=$1/share file
   mkdir -p "$tree/bin" "$tree/libexec/uringwalk" "$share/man/man1" "$share/bash-completion/completions" \
     "$share/zsh/site-functions" "$share/fish/vendor_completions.d" "$share/uringwalk" &&
     install -m 755 "${program:?}" "$tree/libexec/uringwalk/uringwalk" &&
@@ -50,6 +50,7 @@ make_tree() {
     install -D -m 644 "$top/examples/$file" "$share/uringwalk/examples/$file" || return
   done < <(find "$top/examples" -type f -printf '%P\n')
   make_real "$tree" || return
+  [ -z "$page" ] || install -m 644 "$page" "$share/uringwalk/uringwalk.html" || return
   { find "$tree" -type f -printf '%P\n' && echo "$list"; } | LC_ALL=C sort >"$tree.list" &&
     install -m 644 "$tree.list" "$tree/$list"
 }
@@ -275,18 +276,20 @@ stage_here() {
 }
 
 # Makes the tarball of the same tree in the current folder, and the file of its SHA-256. Its bytes depend on the files
-# and on the time of the last commit alone.
+# and on the time of the last commit alone. It has the page with the program, where that can be made.
 make_dist() {
-  local why="" name time sum here=()
+  local why="" name time sum here=() page without=""
   { make_scratch && read_version; } || fail "$why"
   name=uringwalk-$version-x86_64-linux
   attempt git -C "$top" log -1 --format=%ct || fail "the time of the last commit can't be read: $why"
   time=$why
-  { attempt make_tree "$scratch/$name" &&
+  page=$scratch/page.html
+  attempt "$top/tools/web/uringwalk-web" "$page" || { page="" without=", without the page: $why"; }
+  { attempt make_tree "$scratch/$name" "$page" &&
     attempt fill_in README "$scratch/$name/README" && attempt pack "$name" "$time"; } || fail "$why"
   sum=$(sha256sum <"$scratch/tar.gz")
   echo "${sum%% *}  $name.tar.gz" >"$scratch/sum"
   { stage_here "$scratch/tar.gz" && stage_here "$scratch/sum" && attempt mv -fT -- "${here[0]}" "$name.tar.gz" &&
     attempt mv -fT -- "${here[1]}" "$name.tar.gz.sha256"; } || fail "no tarball was made: $why"
-  echo "$name.tar.gz and $name.tar.gz.sha256 are made"
+  echo "$name.tar.gz and $name.tar.gz.sha256 are made$without"
 }

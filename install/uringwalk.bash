@@ -20,7 +20,7 @@ _uringwalk_options() {
         log | timeline) echo "--from --to" ;;
         explain) echo "--kind --allow --json --sarif" ;;
         explore)
-            echo "--kind --until --runs --seed --first --events --out --unlocked --sound-device --threads --json"
+            echo "--kind --allow --until --runs --seed --first --events --out --unlocked --sound-device --late --threads --json"
             ;;
         live) echo "--turns --kernel --trace" ;;
         serve) echo "--port --turns --kernel --clients" ;;

@@ -48,6 +48,7 @@ complete -c uringwalk -n '__uringwalk_word_is explain' -l sarif -d 'Print a SARI
 complete -c uringwalk -n '__uringwalk_word_is explain' -l kind -x -d 'Findings of this kind alone' -a "$kinds"
 complete -c uringwalk -n '__uringwalk_word_is explain' -l allow -x -d 'Faults of this kind don\'t count' -a "$kinds"
 complete -c uringwalk -n '__uringwalk_word_is explore' -l kind -x -d 'Look for this kind alone' -a "$kinds"
+complete -c uringwalk -n '__uringwalk_word_is explore' -l allow -x -d 'Don\'t look for faults of this kind' -a "$kinds"
 complete -c uringwalk -n '__uringwalk_word_is explore' -l until -x -d 'Look for a place that gets a value'
 complete -c uringwalk -n '__uringwalk_word_is explore' -l runs -x -d 'How many runs there are'
 complete -c uringwalk -n '__uringwalk_word_is explore' -l seed -x -d 'The seed of the runs'
@@ -56,6 +57,7 @@ complete -c uringwalk -n '__uringwalk_word_is explore' -l events -x -d 'The most
 complete -c uringwalk -n '__uringwalk_word_is explore' -l out -r -F -d 'The script to write'
 complete -c uringwalk -n '__uringwalk_word_is explore' -l unlocked -d 'Threads come between another\'s put, push and enter'
 complete -c uringwalk -n '__uringwalk_word_is explore' -l sound-device -d 'No transfer ends short or with EIO'
+complete -c uringwalk -n '__uringwalk_word_is explore' -l late -d 'Requests are issued after their submission'
 complete -c uringwalk -n '__uringwalk_word_is explore' -l threads -x -d 'How many threads make the runs'
 complete -c uringwalk -n '__uringwalk_word_is explore' -l json -d 'Print JSON'
 complete -c uringwalk -n '__uringwalk_word_is live serve' -l turns -x -d 'How many turns each thread has'

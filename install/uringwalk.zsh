@@ -68,8 +68,9 @@ _uringwalk() {
       ;;
     explore)
       _arguments $usage \
-        "*--kind=[look for this kind alone]:kind:($kinds)" \
-        '(--kind)--until=[look for a place that gets a value]:place = value' \
+        "(--allow --until)*--kind=[look for this kind alone]:kind:($kinds)" \
+        "(--kind --until)*--allow=[don't look for faults of this kind]:kind:($kinds)" \
+        '(--kind --allow)*--until=[look for a place that gets a value]:place = value' \
         '--runs=[how many runs there are, 1 to 1000000]:runs' \
         '--seed=[the seed of the runs]:seed' \
         '--first=[the number of the first run]:run' \
@@ -77,6 +78,7 @@ _uringwalk() {
         '--out=[the script to write]:script to write:_files' \
         "--unlocked[let threads come between another's put, push and enter]" \
         '--sound-device[have no transfer end short or with EIO]' \
+        '--late[let requests be issued after their submission]' \
         '--threads=[how many threads make the runs, 1 to 64]:threads' \
         '--json[print JSON]' "1:script:$script"
       ;;
