@@ -3,12 +3,12 @@ submission does, and all that a kernel can do by then."""
 import collections
 import json
 
+import prompt
 import traces
 from model import REFUSED, Fault, Run
 from traces import Event
 
 BY_ITSELF = "a poller takes by itself"
-BY_THE_KERNEL = ("issue", "finish", "expire")
 
 
 class OtherSchedule(Exception):
@@ -71,11 +71,21 @@ def check_bytes(run, plain, whole):
             raise OtherSchedule(len(plain.events) - 1)
 
 
+def does_more(run):
+    """Does the next thing that a kernel does without another step, take or tick, and returns whether there is one."""
+    rows = [row for row in run.state.rows if row.ended is None]
+    for row in sorted(rows, key=prompt.is_linked):
+        for kind in ("issue", "finish") if prompt.noun_of(row.entry) else ("issue",):
+            if run.extend([Event(kind, row.number)]):
+                return True
+    return any(run.extend([Event(kind, row.number)]) for row in rows for kind in ("finish", "expire"))
+
+
 def finished(plain):
     """Returns a run, and then all that a kernel does without another step, take or tick."""
     run = Run(plain.program, plain.setup)
     run.extend(plain.events)
-    while any(run.extend([Event(kind, row.number)]) for row in run.state.rows if row.ended is None for kind in BY_THE_KERNEL):
+    while does_more(run):
         pass
     return run
 

@@ -11,7 +11,7 @@ NOP, FSYNC, POLL, POLL_REMOVE, TIMEOUT, REMOVE, CANCEL, LINK_TIMEOUT, READ, WRIT
 TRANSFERS, REMOVALS = (READ, WRITE), (POLL_REMOVE, REMOVE, CANCEL)
 ENOENT, EINTR, EBADF, EFAULT, EBUSY, EINVAL, EFBIG, ETIME = -2, -4, -9, -14, -16, -22, -27, -62
 EALREADY, ECANCELED = -114, -125
-DRAIN, LINKS, OTHER_FLAGS = 2, 4 | 8, 1 | 32 | 64
+DRAIN, ASYNC, LINKS, OTHER_FLAGS = 2, 16, 4 | 8, 1 | 32 | 64
 MEMORY = 65536
 POSITION, SIGNED = 2 ** 64 - 1, 2 ** 63
 MASK = 1 | 4 | 8 | 16
@@ -22,19 +22,22 @@ class Context:
 
     def __init__(self, found, run, outcome):
         self.found, self.run, self.state, self.setup, self.outcome = found, run, run.state, run.setup, outcome
-        self.entries = []
+        self.rows = self.state.rows
+        self.entries = [row.entry for row in self.rows]
         for thread in self.setup.threads:
             self.read_program(thread)
-        self.rows = self.state.rows
         self.named = {}
 
     def read_program(self, thread):
+        """Adds the entries that are pushed and not submitted."""
         slots = {}
         for kind, numbers, raw in thread:
             if kind == traces.PUT:
                 slots[numbers[0]] = traces.Entry.read(raw)
             elif kind == traces.PUSH:
-                self.entries.append(slots.get(numbers[0], traces.Entry.read(bytes(64))))
+                entry = slots.get(numbers[0], traces.Entry.read(bytes(64)))
+                if entry not in self.entries:
+                    self.entries.append(entry)
 
     def of_user(self, user):
         return [entry for entry in self.entries if entry.user_data == user]
@@ -228,8 +231,17 @@ def counts_its_submission(context, entry, ours, theirs):
 
 def finds_itself(entry, ours, theirs):
     """Whether a worker carries out a cancel that matches itself."""
-    own = not entry.opflags & 2 and entry.addr == entry.user_data
+    own = entry.opflags & 2 or entry.addr == entry.user_data
     return entry.op == CANCEL and own and ours == [ENOENT] and theirs == [EALREADY]
+
+
+def before_worker(context, entry, ours, theirs):
+    """Whether a removal came before a worker had issued the request with IOSQE_ASYNC that it removes here."""
+    for removal in (it for it in context.entries if it.op in REMOVALS):
+        targets = [it for it in context.entries if it is not removal and it.flags & ASYNC and meets(removal, it)]
+        if entry is removal and targets and theirs == [ENOENT] or entry in targets and ours == [ECANCELED] and not theirs:
+            return True
+    return False
 
 
 def name_of_completion(context, it):
@@ -246,6 +258,7 @@ def name_of_completion(context, it):
                  ("completion-clock", counts_more(context, entry, ours, theirs)),
                  ("submission-count", counts_its_submission(context, entry, ours, theirs)),
                  ("cancel-itself", finds_itself(entry, ours, theirs)),
+                 ("prompt-issue", before_worker(context, entry, ours, theirs)),
                  ("worker-order", min([*ours, *theirs, 0]) == 0 and ours and theirs and after_worker(context, entry)),
                  ("chain-after-drain", chain_after_drain(context, entry, ours, theirs)),
                  ("longer-drain", longer_drain(context, entry, ours, theirs))]
@@ -345,6 +358,13 @@ def name_of_word(context, it):
     return sorted(names)[0] if names and "" not in names else "".join(calls[:1])
 
 
+def name_of_missing(context, it):
+    """Returns the item that explains why a call waits on the kernel alone: a completion doesn't come there."""
+    missing = [other for other in context.found if other.subject[0] == "completion" and len(other.theirs) < len(other.ours)]
+    names = {other.name for other in missing}
+    return sorted(names)[0] if it.theirs == ["waits"] and names and "" not in names else ""
+
+
 def name_all(found, run, outcome):
     """Gives each difference the name of the item that explains it, where there is one."""
     context = Context(found, run, outcome)
@@ -358,7 +378,7 @@ def name_all(found, run, outcome):
         if it.name:
             context.named[it.subject[1]] = it.name
     for it in kinds["call"]:
-        it.name = own_name_of_call(context, it) or stop_of_submission(context)
+        it.name = own_name_of_call(context, it) or name_of_missing(context, it) or stop_of_submission(context)
     for it in kinds["word"]:
         it.name = name_of_word(context, it)
     for it in [*kinds["memory"], *kinds["file"]]:

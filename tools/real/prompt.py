@@ -1,25 +1,27 @@
 """Whether a kernel could make a schedule: it issues the requests of a submission, in order, before the submission ends, and a NOP,
 a cancellation or a removal completes as it is issued (io_uring_enter(2)).
 
-The later requests of a chain, and those with IOSQE_ASYNC, which a worker issues, leave a kernel the choice: they may come late."""
+A kernel has the choice of when it issues requests with IOSQE_ASYNC and FSYNCs, which workers carry out, and those from the first
+with IOSQE_IO_DRAIN on. The later requests of a chain it issues before the thread that submitted them goes on."""
 from traces import Event
 
-NOP, REMOVALS, LINK_TIMEOUT, ASYNC = 0, {7: "removal", 12: "removal", 14: "cancel"}, 15, 16
+NOP, FSYNC, REMOVALS = 0, 3, {7: "removal", 12: "removal", 14: "cancel"}
+DRAIN, ASYNC = 2, 16
 
 
-def is_inline(row):
-    """Returns whether a submission issues a request in its first turn, if nothing else holds it back."""
-    return row.unit == row.number or row.entry.op == LINK_TIMEOUT
+def is_linked(row):
+    """Returns whether a request follows another one of its chain."""
+    return row.unit != row.number
 
 
-def may_be_late(row):
-    """Returns whether a kernel may issue a request after its submission has ended."""
-    return not is_inline(row) or bool(row.entry.flags & ASYNC)
+def is_for_workers(entry):
+    """Returns whether a worker carries a request out from the start."""
+    return entry.op == FSYNC or bool(entry.flags & ASYNC)
 
 
 def noun_of(entry):
     """Returns what a request is called that completes as it is issued, or None for another one."""
-    if entry.flags & ASYNC:
+    if is_for_workers(entry):
         return None
     return "NOP" if entry.op == NOP else REMOVALS.get(entry.op)
 
@@ -30,15 +32,28 @@ class Schedule:
     def __init__(self, run):
         self.run, self.events, self.rows = run, run.events, run.state.rows
 
-    def may_issue(self, index, row):
-        """Returns whether the model accepts that a request is issued before an event."""
+    def may_be_late(self, row):
+        """Returns whether a kernel may issue a request after its submission, or complete it after it is issued."""
+        return is_for_workers(row.entry) or any(it.entry.flags & DRAIN for it in self.rows[:row.number + 1])
+
+    def is_left(self, index, row):
+        """Returns whether a request isn't issued before an event, though the model accepts that."""
+        if row.issued is not None and row.issued < index or row.ended is not None and row.ended < index:
+            return False
         tried = [*self.events[:index], Event("issue", row.number)]
         return len(self.run.program.log(self.run.setup, tried, index)) == 1
 
+    def goes_on(self, index, row):
+        """Returns whether an event is a step of the thread that submitted a request."""
+        by, event = self.events[row.taken], self.events[index]
+        return by.kind == event.kind == "step" and by.number == event.number
+
     def lateness(self, index, row):
         """Returns why an event comes late for a request, or None where the request leaves it the choice."""
+        if self.may_be_late(row):
+            return None
         if row.issued is None or row.issued >= index:
-            if may_be_late(row) or row.ended is not None and row.ended < index or not self.may_issue(index, row):
+            if is_linked(row) and not self.goes_on(index, row) or not self.is_left(index, row):
                 return None
             call = "take" if self.events[row.taken].kind == "take" else "enter"
             return f"row {row.number} is issued late, a kernel issues it in the {call} of event {row.taken}"
@@ -55,14 +70,16 @@ class Schedule:
 
     def first_late(self):
         """Returns the index of the first event that comes late, and why it is late, or None for a schedule that a kernel could make."""
-        first = count = 0
+        first, count, passed = 0, 0, []
         for index, event in enumerate(self.events):
-            for row in sorted(self.rows[first:count], key=lambda row: not is_inline(row)):
+            rows = sorted(self.rows[first:count], key=is_linked)
+            for row in [*passed, *rows]:
                 if self.does_next(index, row):
                     break
                 if why := self.lateness(index, row):
                     return index, why
             else:
+                passed += [row for row in rows if is_linked(row) and self.is_left(index, row)]
                 first = event.number if event.kind == "issue" else count
             count = sum(row.taken <= index for row in self.rows)
         return None
