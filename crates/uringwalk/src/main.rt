@@ -160,44 +160,51 @@ fn run<
         + Clock
         + Net<Listener = TcpListener, Stream = TcpStream>
         + Sync,
->(rt: &R, job: Job<'_>, is_terminal: bool) -> Result<ExitCode, Fault>
-    requires { IsInRange job }
+>(rt: &R, job: &Job<'_>, is_terminal: bool) -> Result<ExitCode, Fault>
+    requires { IsInRange job.now }
 {
     match job {
-        Job::Walk(script) => done(answer_over(rt, Over::Script, script)),
-        Job::Replay(trace) => done(answer_over(rt, Over::Trace, trace)),
-        Job::Log { run, from, to } => log_file(rt, run, EventRange { from, to }),
-        Job::Check(script) => check_file(rt, script),
+        Job::Walk(script) => done(answer_over(rt, Over::Script, *script)),
+        Job::Replay(trace) => done(answer_over(rt, Over::Trace, *trace)),
+        Job::Log { run, from, to } => log_file(
+            rt,
+            *run,
+            EventRange {
+                from: *from,
+                to: *to,
+            },
+        ),
+        Job::Check(script) => check_file(rt, *script),
         Job::Explain {
             runs,
             kinds,
             allowed,
             form,
-        } => explain_files(rt, &runs, &kinds, &allowed, form),
-        Job::Timeline { run, out, from, to } => draw_file(rt, run, out, from, to),
-        Job::Explore(search) => explore_file(rt, &search, is_terminal),
-        Job::Schedule { script, trace, out } => schedule_file(rt, script, trace, out),
+        } => explain_files(rt, runs, kinds, allowed, *form),
+        Job::Timeline { run, out, from, to } => draw_file(rt, *run, *out, *from, *to),
+        Job::Explore(search) => explore_file(rt, search, is_terminal),
+        Job::Schedule { script, trace, out } => schedule_file(rt, *script, *trace, *out),
         Job::Live {
             script,
             turns,
             kernel,
             out,
-        } => done(live_file(rt, script, turns, kernel, out)),
+        } => done(live_file(rt, *script, *turns, *kernel, *out)),
         Job::Serve {
             script,
             port,
             turns,
             kernel,
             clients,
-        } => done(serve_file(rt, script, port, turns, kernel, clients)),
+        } => done(serve_file(rt, *script, *port, *turns, *kernel, *clients)),
         Job::Dap => serve_editor(rt),
         Job::Trace {
             script,
             out,
             form,
             eager,
-        } => done(trace_file(rt, script, out, form, eager)),
-        Job::Migrate { script, trace, out } => done(migrate_file(rt, script, trace, out)),
+        } => done(trace_file(rt, *script, *out, *form, *eager)),
+        Job::Migrate { script, trace, out } => done(migrate_file(rt, *script, *trace, *out)),
     }
 }
 
@@ -279,10 +286,10 @@ fn carry_out<
         + Clock
         + Net<Listener = TcpListener, Stream = TcpStream>
         + Sync,
->(rt: &R, job: Job<'_>, is_terminal: bool) -> ExitCode
-    requires { IsInRange job }
+>(rt: &R, job: &Job<'_>, is_terminal: bool) -> ExitCode
+    requires { IsInRange job.now }
 {
-    match loses_script(rt, &job) {
+    match loses_script(rt, job) {
         Ok(false) => match run(rt, job, is_terminal) {
             Ok(status) => status,
             Err(fault) => fail(rt, 1, &fault),
@@ -306,7 +313,7 @@ fn read_words<
         + Sync,
 >(rt: &R, words: &[&str], is_terminal: bool) -> ExitCode {
     match job(rt.alloc(), words) {
-        Ok(job) => carry_out(rt, job, is_terminal),
+        Ok(job) => carry_out(rt, &job, is_terminal),
         Err(error) if error.kind() == ErrorKind::OutOfMemory => fail_for_memory(rt),
         Err(error) if error.kind() == ErrorKind::DisplayVersion => print_version(rt, &error),
         Err(error) => fail(rt, 2, &error),

@@ -27,7 +27,7 @@ use std::rt::Files;
 use std::thread;
 use std::thread::Threads;
 use std::time::Clock;
-use symptoms::Symptom;
+use symptoms::{Goal, Symptom};
 use whole_files::{read_file, write_file};
 
 /// The exit status if the command line is wrong.
@@ -148,21 +148,19 @@ fn present<R: Files + Print + AllocGlobal>(
 }
 
 // Searches for a symptom.
-fn explore_for<R: Files + Print + Eprint + AllocGlobal + Threads + Clock + Sync>(
+fn search<R: Eprint + AllocGlobal + Threads + Clock + Sync>(
     rt: &R,
     task: Task<'_>,
     setup: &Setup,
     symptom: Symptom<'_>,
-) -> Result<ExitCode, Fault>
+) -> Result<Conclusion, ConclusionFault>
     requires words { IsSearch task.words.now }
     requires starts { setup_refusal setup.now ≡ None }
     requires script { IsScriptOf task.script.now setup.now }
 {
     let words = task.words;
-    let (Ok(program), Ok(kinds)) = (Program::new(rt.alloc(), setup), kinds_of(rt.alloc(), KINDS))
-    else {
-        return Err(MEMORY);
-    };
+    let program = Program::new(rt.alloc(), setup)?;
+    let kinds = kinds_of(rt.alloc(), KINDS)?;
     let runs = RandomRuns {
         alloc: rt.alloc(),
         setup,
@@ -177,8 +175,33 @@ fn explore_for<R: Files + Print + Eprint + AllocGlobal + Threads + Clock + Sync>
         symptom,
         kinds: &kinds[..kinds.len().min(MOST_KINDS)],
     };
-    match conclusion_of(rt, task, &runs) {
-        Ok(conclusion) => present(rt, words.out, conclusion),
+    conclusion_of(rt, task, &runs)
+}
+
+// Searches for moments at which all goals are met or, without goals, for the kinds of the words.
+fn search_for<R: Eprint + AllocGlobal + Threads + Clock + Sync>(
+    rt: &R,
+    task: Task<'_>,
+    setup: &Setup,
+    goals: &[Goal],
+) -> Result<Conclusion, ConclusionFault>
+    requires words { IsSearch task.words.now }
+    requires starts { setup_refusal setup.now ≡ None }
+    requires script { IsScriptOf task.script.now setup.now }
+{
+    let kinds = kinds_of(rt.alloc(), &task.words.kinds)?;
+    let allowed = kinds_of(rt.alloc(), &task.words.allowed)?;
+    search(rt, task, setup, symptom_of(goals, &kinds, &allowed))
+}
+
+// Prints what a search found, or reports why it failed.
+fn answer<R: Files + Print + Eprint + AllocGlobal>(
+    rt: &R,
+    out: Option<&str>,
+    searched: Result<Conclusion, ConclusionFault>,
+) -> Result<ExitCode, Fault> {
+    match searched {
+        Ok(conclusion) => present(rt, out, conclusion),
         Err(ConclusionFault::Memory | ConclusionFault::Rewrite(RewriteFault::Memory)) => {
             Err(MEMORY)
         }
@@ -187,6 +210,16 @@ fn explore_for<R: Files + Print + Eprint + AllocGlobal + Threads + Clock + Sync>
         }
         Err(ConclusionFault::Rewrite(RewriteFault::TooLong)) => Err(TOO_LONG),
         Err(ConclusionFault::Rewrite(RewriteFault::Place)) => Ok(fail(rt, 1, &NO_PLACE)),
+    }
+}
+
+// Reports conditions of `--until` that can't be searched for.
+fn refuse(rt: &impl Eprint, words: &Exploration<'_>, fault: UntilFault) -> ExitCode {
+    match fault {
+        UntilFault::Command(fault) => refuse_until(rt, fault),
+        UntilFault::Twice(index) => {
+            refuse_second(rt, words.until.get(index).copied().unwrap_or(""))
+        }
     }
 }
 
@@ -200,19 +233,9 @@ fn explore_setup<R: Files + Print + Eprint + AllocGlobal + Threads + Clock + Syn
     requires starts { setup_refusal setup.now ≡ None }
     requires script { IsScriptOf task.script.now setup.now }
 {
-    let words = task.words;
-    let (Ok(kinds), Ok(allowed)) = (
-        kinds_of(rt.alloc(), &words.kinds),
-        kinds_of(rt.alloc(), &words.allowed),
-    ) else {
-        return Err(MEMORY);
-    };
-    match goals_of(rt.alloc(), setup, &words.until) {
-        Ok(Ok(goals)) => explore_for(rt, task, setup, symptom_of(&goals, &kinds, &allowed)),
-        Ok(Err(UntilFault::Command(fault))) => Ok(refuse_until(rt, fault)),
-        Ok(Err(UntilFault::Twice(index))) => {
-            Ok(refuse_second(rt, words.until.get(index).copied().unwrap_or("")))
-        }
+    match goals_of(rt.alloc(), setup, &task.words.until) {
+        Ok(Ok(goals)) => answer(rt, task.words.out, search_for(rt, task, setup, &goals)),
+        Ok(Err(fault)) => Ok(refuse(rt, task.words, fault)),
         Err(_) => Err(MEMORY),
     }
 }
