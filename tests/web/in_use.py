@@ -278,6 +278,54 @@ def test_long_run(page):
     page.check("a moment that was chosen meanwhile stays", drawn(page) == [0, PART, 5, 1], drawn(page))
 
 
+def test_quick_jumps(page):
+    """Of quick jumps among parts of a long run the last one counts, also while a picture loads, and for a walk."""
+    page.open()
+    page.js(f"void set_script({json.dumps(long_script(ROUNDS))})")
+    end = 6 * ROUNDS
+    page.wait(f"timeline.to === {end} && timeline.coming === null", "a long run is drawn")
+    quiet = "timeline.coming === null && !timeline.drawing && document.querySelectorAll('iframe').length === 1"
+    # The second jump comes at once, while the first one's picture loads, or is back in the picture that is there.
+    for first, last, between in ((10, 4000, ""), (10, 5000, "while (!timeline.coming) await new Promise((go) => setTimeout(go));"), (10, 5500, ""), (10, 3000, "")):
+        page.js(f"(async () => {{ go_to_moment({first}); {between} go_to_moment({last}); }})()")
+        page.wait(f"{quiet} && timeline.from <= {last} && {last} <= timeline.to", f"a jump to {first} and then {last} draws the last one's part")
+        page.check("it ends at its moment", drawn(page)[2:] == [last, 1] and page.js("editor.moment") == last, drawn(page))
+        page.js("by_id('replies').textContent = '', ask('where')")
+        page.wait("by_id('replies').textContent !== ''", "where is answered")
+        page.check("a walk is there too", replies(page) == f"> where\nat {last} of {end}\n", replies(page))
+    page.js("ask('goto 7000'), ask('goto 20')")
+    page.wait(f"{quiet} && timeline.from === 0", "two quick commands end in the last one's part")
+    page.check("at its moment", drawn(page) == [0, PART, 20, 1], drawn(page))
+
+
+def test_first_fault(page):
+    """A long run opens at its first fault, also where a note comes before, far away."""
+    page.open()
+    script = json.loads(long_script(ROUNDS))
+    end, [first, second] = 6 * ROUNDS, script["threads"]
+    script["threads"] = [[["put", 0, {"op": 0, "ioprio": 1}], *first[1:]], [*second, ["enter", 0, 0, 1024]]]
+    script["schedule"].append(["step", 1])
+    page.js(f"void set_script({json.dumps(json.dumps(script))})")
+    page.wait("findings.length > 0 && timeline.moment !== null && timeline.coming === null", "it is drawn")
+    levels = page.js("[findings[0].fault, findings.find((it) => it.fault).moment]")
+    page.check("a note is first, a fault far away", levels == [False, end] and page.js("findings[0].moment") < PART, levels)
+    page.check("it opens at the fault", drawn(page)[:3] == [end + 1 - PART, end + 1, end], drawn(page))
+
+
+def test_focus_in_frame(page):
+    """A picture that replaces the one with the focus has the focus, and keys."""
+    page.open()
+    page.js("timeline.frame.focus(), globalThis.old = timeline.frame")
+    page.set_text(page.js("text.value + ' '"))
+    page.wait("timeline.frame !== old && timeline.coming === null", "another picture is drawn")
+    page.check("it has the focus", page.js("document.activeElement === timeline.frame"), page.js("document.activeElement.tagName"))
+    page.press("ArrowLeft")
+    page.wait("timeline.moment === 17", "it takes keys")
+    page.js("text.focus(), globalThis.old = timeline.frame, check_script()")
+    page.wait("timeline.frame !== old && timeline.coming === null", "another one is drawn")
+    page.check("the focus stays in the script", page.focus() == "text", page.focus())
+
+
 def test_tabs(page):
     chosen = "[...document.querySelectorAll('#tabs [aria-selected=true]')].map((it) => it.dataset.pane).join()"
     page.open()

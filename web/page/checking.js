@@ -29,14 +29,18 @@ function show_refusal(done) {
   if (length) report(counted(length, 'problem'), true);
 }
 
-// Draws the run, or the part of it around the moment.
+// Draws the run, or the part of it around the moment. Of several that are drawn, the last one counts.
 async function draw_run(mine = edit) {
-  const part = part_of(editor.events.length), words = ['timeline', NAME, 'run.html'];
+  const part = part_of(editor.events.length), words = ['timeline', NAME, 'run.html'], drawing = {};
   const ends = part.to - part.from < editor.events.length ? ['--from', `${part.from}`, '--to', `${part.to}`] : [];
+  timeline.drawing = drawing;
   const done = await run_for(mine, [...words, ...ends]);
+  if (timeline.drawing !== drawing) return;
+  timeline.drawing = null;
   if (!done) return;
-  if (done.status === 0 && done.files['run.html']) load_picture(done.files['run.html'], part);
-  else show_failure(done);
+  if (done.status !== 0 || !done.files['run.html']) show_failure(done);
+  else if (has_moment(part)) load_picture(done.files['run.html'], part);
+  else await draw_run(mine);
 }
 
 // Shows the findings of the run, and returns whether the program listed them.
@@ -135,7 +139,7 @@ function set_script(value, is_kept = true) {
   if (value.includes('\r')) by_id('story').textContent = 'Its line ends, CR LF, are LF here, and in what is saved.';
   by_id('visit').hidden = value !== stories[0].script;
   Object.assign(editor, {moment: null, problems: []});
-  Object.assign(timeline, {moment: null, asked: null});
+  timeline.moment = null;
   read_text();
   text.scrollTop = 0;
   measure_editor();

@@ -2,15 +2,18 @@
 
 // The most events of a picture here: those around the moment.
 const MOST_DRAWN = 2000;
-const timeline = {frame: null, coming: null, moment: null, from: 0, to: 0, asked: null};
+const timeline = {frame: null, coming: null, drawing: null, moment: null, from: 0, to: 0};
 
 // Returns the part of a run that is drawn.
 function part_of(events) {
   if (events <= MOST_DRAWN) return {from: 0, to: events};
-  const middle = timeline.asked ?? timeline.moment ?? (findings.length ? findings[0].moment : events);
+  const first = findings.find((it) => it.fault) || findings[0], middle = timeline.moment ?? (first ? first.moment : events);
   const from = within(0, middle - MOST_DRAWN / 2, events - MOST_DRAWN);
   return {from, to: from + MOST_DRAWN};
 }
+
+// Returns whether a part has the moment.
+const has_moment = ({from, to}) => timeline.moment === null || timeline.moment >= from && (timeline.moment <= to || to === editor.events.length);
 
 function drop_coming() {
   if (!timeline.coming) return;
@@ -28,7 +31,7 @@ function mark_old_picture() {
 // Loads a picture out of sight. It replaces the old one once it reports its moment.
 function load_picture(bytes, part) {
   drop_coming();
-  const frame = document.createElement('iframe'), moment = timeline.asked ?? timeline.moment;
+  const frame = document.createElement('iframe'), {moment} = timeline;
   frame.className = 'coming';
   frame.title = 'Timeline of the run';
   frame.setAttribute('sandbox', 'allow-scripts');
@@ -40,10 +43,11 @@ function load_picture(bytes, part) {
 }
 
 function replace_picture() {
-  const old = timeline.frame;
+  const old = timeline.frame, has_focus = old && document.activeElement === old;
   URL.revokeObjectURL(timeline.coming.dataset.address);
   timeline.coming.className = '';
-  Object.assign(timeline, {frame: timeline.coming, coming: null, asked: null}, timeline.part);
+  Object.assign(timeline, {frame: timeline.coming, coming: null}, timeline.part);
+  if (has_focus) timeline.frame.focus();
   if (old) old.remove();
   by_id('stale').hidden = true;
 }
@@ -54,14 +58,24 @@ function take_moment(moment) {
   mark_event(moment);
 }
 
+// Takes the picture that has loaded, or drops it where the moment has left its part meanwhile.
+function take_picture(moment) {
+  const wanted = timeline.moment, has_moved = wanted !== null && timeline.coming.dataset.moment !== `${wanted}`;
+  if (!has_moment(timeline.part)) {
+    drop_coming();
+    if (!timeline.drawing) draw_run();
+    return;
+  }
+  replace_picture();
+  if (has_moved) go_to_moment(wanted);
+  else take_moment(moment);
+}
+
 addEventListener('message', ({source, data}) => {
   const moment = data && Number.isInteger(data.moment) ? data.moment : null, {frame, coming} = timeline;
   if (moment === null) return;
   if (coming && source === coming.contentWindow) {
-    const wanted = timeline.moment, has_moved = wanted !== null && coming.dataset.moment !== `${wanted}`;
-    replace_picture();
-    if (has_moved) go_to_moment(wanted);
-    else take_moment(moment);
+    take_picture(moment);
   } else if (frame && source === frame.contentWindow && moment !== timeline.moment) take_moment(moment);
 });
 
@@ -69,8 +83,6 @@ addEventListener('message', ({source, data}) => {
 function go_to_moment(moment) {
   take_moment(moment);
   if (!timeline.frame) return;
-  if (moment < timeline.from || moment > timeline.to) {
-    timeline.asked = moment;
-    draw_run();
-  } else timeline.frame.contentWindow.postMessage({moment}, '*');
+  if (moment < timeline.from || moment > timeline.to) draw_run();
+  else timeline.frame.contentWindow.postMessage({moment}, '*');
 }
