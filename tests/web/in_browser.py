@@ -127,6 +127,24 @@ def test_edits(page):
     page.check("a long line isn't painted", page.js("text.classList.contains('bare')"))
 
 
+def test_underlines(page):
+    """Problems are underlined also in the event of the moment, and at the end of the text."""
+    wrong, event = ("[...document.querySelectorAll('#paint .%s')].map((it) => it.textContent)" % it for it in ("wrong", "event_here"))
+    page.open()
+    script = page.js("text.value")
+    for change, marked, left in (('["finish", 2x]', ["2x"], ['["finish", ', "]"]), ('[x"finish", 2]', ["x"], ["[", '"finish", 2]'])):
+        page.set_text(script.replace('["finish", 2]', change))
+        page.check(f"in the event {change} its problem is underlined", page.js(wrong) == marked, page.js(wrong))
+        page.check("the rest of the event is marked", page.js(event) == left, page.js(event))
+        page.check("the text is as before", page.js("text.value.startsWith(by_id('paint').textContent)"))
+    ended = script.rstrip()[:-1]
+    for text, marked in ((ended, [" "]), (ended.rstrip(), ["]"]), ("", [" "]), (" \n\n", [" "]), ('{"a"', ['"'])):
+        page.set_text(text)
+        page.check(f"the end of {text[-9:]!r} is underlined", page.js(wrong) == marked, page.js(wrong))
+        line, height = "document.querySelector('#paint .wrong').getBoundingClientRect()", page.js("editor.height")
+        page.check("in its line", page.js(f"Math.abs({line}.top - text.getBoundingClientRect().top - {(text.count(chr(10)) + 0.5) * height}) < {height}"))
+
+
 def test_completion(page):
     page.open()
     page.set_text('{"op": }')
@@ -292,7 +310,7 @@ def test_page(path, made, room, sums):
     """Runs all of these on one page."""
     with browser.Browser(*WIDE) as tab:
         page = Page(tab, path, sums)
-        tests = [test_network, test_first_visit, test_edits, test_completion, test_walk, test_explore, lambda it: test_share(it, room),
+        tests = [test_network, test_first_visit, test_edits, test_underlines, test_completion, test_walk, test_explore, lambda it: test_share(it, room),
                  test_bad_links, test_bad_input, test_keyboard, lambda it: test_looks(it, room),
                  lambda it: hostile.test_failures(it, made, room), hostile.test_fields, hostile.test_fences,
                  lambda it: hostile.test_about(it, made), hostile.test_links,

@@ -10,21 +10,37 @@ function measure_editor() {
   editor.height = parseFloat(getComputedStyle(text).lineHeight);
 }
 
-// Returns the marked parts, in order: problems, and the event of the moment.
+// Returns the part that a problem marks: what starts there, or else the character before. An empty line has neither.
+function wrong_part({offset}) {
+  const token = text.value.slice(offset, offset + 200).match(/^("[^"\n]*"?|[[{][^\n]*|[\w.+-]+|.)/);
+  if (token) return [offset, offset + token[0].length, 'wrong'];
+  return [offset > 0 && text.value[offset - 1] !== '\n' ? offset - 1 : offset, offset, 'wrong'];
+}
+
+// Returns the parts of a span that no mark covers.
+function uncovered([from, to], marked) {
+  const parts = [];
+  let at = from;
+  for (const [begin, end] of marked) {
+    parts.push([at, Math.min(begin, to)]);
+    at = Math.max(at, end);
+  }
+  return [...parts, [at, to]].filter(([begin, end]) => begin < end);
+}
+
+// Returns the marked parts, in order: problems, and what they leave of the event of the moment.
 function marks() {
-  const found = editor.problems.filter((it) => it.offset !== null).map(({offset}) => {
-    const token = text.value.slice(offset, offset + 200).match(/^("[^"\n]*"?|[[{][^\n]*|[\w.+-]+|.)/);
-    return [offset, offset + (token ? token[0].length : 1), 'wrong'];
-  });
-  const event = editor.moment === null ? null : editor.events[editor.moment];
-  if (event) found.push([...event, 'event_here']);
-  return found.sort((one, other) => one[0] - other[0]);
+  const in_order = (one, other) => one[0] - other[0], event = editor.moment === null ? null : editor.events[editor.moment];
+  const found = editor.problems.filter((it) => it.offset !== null).map(wrong_part).sort(in_order);
+  const left = event ? uncovered(event, found).map((it) => [...it, 'event_here']) : [];
+  return [...found, ...left].sort(in_order);
 }
 
 // Returns the HTML of the line from one offset to another.
 function painted(from, to, marked, is_colored) {
   const out = [], shown = is_colored ? colored : plain;
   let at = from;
+  if (from === to && marked.some(([begin, end]) => begin === from && end === from)) return '<span class="wrong"> </span>';
   for (const [begin, end, kind] of marked) {
     if (end <= at || begin >= to) continue;
     const start = Math.max(at, begin), stop = Math.min(end, to);

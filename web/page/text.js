@@ -31,7 +31,7 @@ const line_text = (value, starts, line) => value.slice(starts[line], line + 1 < 
 // Returns the offset of a line and a column, both from 1; columns count bytes.
 function offset_in_bytes(value, starts, line, column) {
   const number = within(0, line - 1, starts.length - 1), bytes = encode(line_text(value, starts, number));
-  return starts[number] + decode(bytes.slice(0, column - 1)).length;
+  return starts[number] + decode(bytes.slice(0, Math.max(0, column - 1))).length;
 }
 
 // Returns the end of a string of JSON that starts at an offset.
