@@ -1,6 +1,7 @@
 """Tests in Chromium how the page is used: walking, replacing the script, exploring, long runs, panes, and keys alone."""
 import json
 import os
+import re
 import subprocess
 
 HERE = os.path.dirname(os.path.realpath(__file__))
@@ -23,6 +24,8 @@ SEARCHES = (
     ({"runs": 150, "seed": "7", "kinds": "too-late"}, ["--kind", "too-late"]),
     ({"runs": 200, "seed": "5", "kinds": "canceled, failed"}, ["--kind", "canceled", "--kind", "failed"]),
     ({"runs": 120, "seed": "3", "until": "sq.head = 2"}, ["--until", "sq.head = 2"]),
+    ({"runs": 120, "seed": "3", "until": " cq.tail = 1 ;cq.head = 1; "}, ["--until", "cq.tail = 1", "--until", "cq.head = 1"]),
+    ({"runs": 150, "seed": "7", "allow": "severed, not-durable"}, ["--allow", "severed", "--allow", "not-durable"]),
     ({"runs": 150, "seed": "9", "unlocked": True}, ["--unlocked"]),
     ({"runs": 150, "seed": "9", "sound-device": True, "kinds": "short"}, ["--sound-device", "--kind", "short"]),
     ({"runs": 150, "seed": "9", "late": True}, ["--late"]),
@@ -226,7 +229,7 @@ def test_searches(page, made):
         choose_example(page, name)
         script = f"{TOP}/examples/{name}/script.json"
         for form, words in searches:
-            fields = {"kinds": "", "until": "", "unlocked": False, "sound-device": False, "late": False, **form}
+            fields = {"kinds": "", "allow": "", "until": "", "unlocked": False, "sound-device": False, "late": False, **form}
             page.js(f"for (const [id, it] of Object.entries({json.dumps(fields)})) by_id(id)[it === true || it === false ? 'checked' : 'value'] = it")
             page.js("by_id('start').click()")
             page.wait("search === null && by_id('found').textContent !== ''", "a search ends")
@@ -234,6 +237,21 @@ def test_searches(page, made):
             shown = page.js("[...document.querySelectorAll('#found p')].map((it) => it.firstChild.nodeType === 3 ? it.firstChild.data.trim() : it.textContent.trim())")
             shown[1] = sorted_seen(shown[1])
             page.check(f"explore {name} {' '.join(words)} is as under node", shown == wanted, f"{shown} not {wanted}")
+
+
+def test_sentences(page):
+    """What the sentences of the examples say that Explore finds, with the fields that they name."""
+    page.open()
+    for name, wanted in (("merged_signals", "found waits"), ("unlinked_fsync", "found fsync-early"), ("unchained_log", "found it at moment 16")):
+        choose_example(page, name)
+        said = page.text("#story")
+        until = re.search(r'Until "(.*)" finds', said)
+        fields = [until[1] if until else "", "sound device" in said]
+        page.js(f"([by_id('until').value, by_id('sound-device').checked] = {json.dumps(fields)}, by_id('runs').value = 2000, by_id('start').click())")
+        page.wait("search === null && by_id('found').textContent !== ''", "a search ends")
+        page.check(f"Explore finds what is said of {name}", page.text("#found").startswith(wanted), page.text("#found"))
+    page.js("by_id('kinds').value = 'short', by_id('allow').value = 'stuck', by_id('until').value = '', by_id('start').click()")
+    page.wait("/cannot be used with/.test(by_id('found').textContent)", "Allow isn't taken with Kinds")
 
 
 def sorted_seen(totals):

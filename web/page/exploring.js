@@ -7,10 +7,14 @@ let search = null, searched = null;
 
 const workers = () => within(2, navigator.hardwareConcurrency || 2, MOST_WORKERS);
 
+// The fields that take several words, and what is between those.
+const LISTS = [['kinds', '--kind', /[\s,]+/], ['allow', '--allow', /[\s,]+/], ['until', '--until', /\s*;\s*/]];
+
 function words_of_search() {
-  const words = ['--seed', by_id('seed').value.trim(), '--threads', '1', '--json'], until = by_id('until').value.trim();
-  for (const kind of by_id('kinds').value.split(/[\s,]+/).filter((it) => it)) words.push('--kind', kind);
-  if (until) words.push('--until', until);
+  const words = ['--seed', by_id('seed').value.trim(), '--threads', '1', '--json'];
+  for (const [id, option, between] of LISTS) {
+    for (const word of by_id(id).value.trim().split(between).filter((it) => it)) words.push(option, word);
+  }
   for (const id of ['unlocked', 'sound-device', 'late']) if (by_id(id).checked) words.push(`--${id}`);
   return words;
 }
