@@ -203,7 +203,8 @@ def test_share(page, room):
     page.set_text(script)
     fragment, home = page.js("fragment_of(text.value)"), page.js("document.body.dataset.home")
     page.js("make_link()")
-    page.check("a link leads to the hosted page", page.js("location.hash") == fragment and (not home or "copied" in page.text("#shared") or home + fragment in page.text("#shared")),
+    address = page.js("by_id('address').value")
+    page.check("a link leads to the hosted page", page.js("location.hash") == fragment and (", copied" in page.text("#shared") or home and address == home + fragment),
                page.text("#shared")[:200])
     page.open(fragment)
     page.check("a link has the script", page.js("text.value") == script)

@@ -6,6 +6,7 @@ async function open_page() {
   show_pane('findings');
   if (is_narrow()) show_pane('script');
   show_searching(false);
+  share('');
   set_script(embedded('first_script'));
   const own = text.value;
   if (typeof DecompressionStream === 'undefined') {

@@ -3,9 +3,11 @@
 const base64_of = (bytes) => btoa(Array.from(bytes, (it) => String.fromCharCode(it)).join(''));
 const to_letters = (bytes) => base64_of(bytes).replace(/\+/g, '-').replace(/\//g, '_').replace(/=+$/, '');
 const from_letters = (letters) => from_base64(letters.replace(/-/g, '+').replace(/_/g, '/'));
-const share = (words) => {
+// Says something of a link, and shows one that nobody has yet.
+function share(words, link = '') {
   by_id('shared').textContent = words;
-};
+  Object.assign(by_id('address'), {value: link, hidden: !link});
+}
 
 // The longest link that is made: Firefox refuses addresses of some 1,000,000 characters. The most lines of its script: a text of
 // very many stops a browser.
@@ -45,7 +47,8 @@ async function make_link() {
     await navigator.clipboard.writeText(link);
     share(`${counted(link.length, 'character')}, copied${here}`);
   } catch (_) {
-    share(`${counted(link.length, 'character')}: ${home ? link : 'it is in the address'}`);
+    share(`${counted(link.length, 'character')}, not copied${here}`, link);
+    by_id('address').select();
   }
 }
 
