@@ -7,7 +7,7 @@ import subprocess
 HERE = os.path.dirname(os.path.realpath(__file__))
 TOP = os.path.dirname(os.path.dirname(HERE))
 ROUNDS, PART = 1334, 2000
-CONTROL = 2
+CONTROL, SHIFT = 2, 8
 
 # Texts, and what the items of their schedules are.
 SCHEDULES = (
@@ -37,8 +37,8 @@ def replies(page):
     return page.text("#replies")
 
 
-def control(page, key):
-    held = {"key": key, "modifiers": CONTROL, "windowsVirtualKeyCode": ord(key.upper())}
+def control(page, key, more=0):
+    held = {"key": key, "modifiers": CONTROL + more, "windowsVirtualKeyCode": ord(key.upper())}
     page.tab.call("Input.dispatchKeyEvent", type="rawKeyDown", **held)
     page.tab.call("Input.dispatchKeyEvent", type="keyUp", **held)
     page.tab.check()
@@ -112,6 +112,31 @@ def test_replacing(page):
     page.click("#use")
     page.wait("/has changed since the search/.test(by_id('status').textContent)", "its schedule isn't put over an edit")
     page.check("the edit is there", page.js("text.value") == edited)
+
+
+def test_redo(page):
+    """A schedule that was found, put into the script and taken back, can be put there again, by the keys for redo."""
+    page.open()
+    script = page.js("text.value")
+    page.js("show_pane('explore'); by_id('runs').value = 100; by_id('start').click()")
+    page.wait("document.querySelector('#use') !== null", "a search finds something")
+    page.click("#use")
+    page.wait("JSON.parse(text.value).schedule.length === 17", "its schedule is put into the script")
+    found = page.js("text.value")
+    choose_example(page, "batched_nops")
+    page.js("text.focus()")
+    for key, more, wanted in (("z", 0, found), ("z", 0, script), ("y", 0, found), ("z", 0, script), ("Z", SHIFT, found), ("y", 0, None)):
+        control(page, key, more)
+        is_so = page.js("text.value") == wanted if wanted else page.js("text.value === stories.find((it) => it.name === 'batched_nops').script")
+        page.check(f"Control and {key} bring back the script before or after", is_so, page.js("text.value.slice(-99)"))
+    control(page, "z")
+    page.wait("/faults/.test(by_id('status').textContent)", "the script that came back is checked")
+    page.tab.type(" ")
+    page.check("a key is typed", page.js("text.value") == " " + found)
+    control(page, "z")
+    page.check("it is undone", page.js("text.value") == found, page.js("text.value.slice(0, 9)"))
+    control(page, "y")
+    page.check("what redo does after an edit is the browser's", page.js("text.value") == " " + found, page.js("text.value.slice(0, 9)"))
 
 
 def test_search_and_edits(page):

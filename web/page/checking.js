@@ -80,31 +80,47 @@ function take_edit() {
   clearTimeout(quiet_timer);
   quiet_timer = setTimeout(check_script, QUIET);
   mark_answers();
+  taken_back.length = 0;
   if (text.value !== stories[0].script) by_id('visit').hidden = true;
 }
 text.addEventListener('input', take_edit);
 
-// Texts that another one has replaced, the newest last. The browser's own undo knows nothing of them.
-const replaced = [], MOST_KEPT = 10;
+// Texts that another one has replaced, the newest last, and such changes that were taken back and can be made again. The
+// browser's own undo knows nothing of them.
+const replaced = [], taken_back = [], MOST_KEPT = 10;
 function keep_text(before, after) {
+  taken_back.length = 0;
   if (before && before !== after) replaced.push({before, after});
   if (replaced.length > MOST_KEPT) replaced.shift();
 }
 
 // Puts back the text before the last that was replaced. The present one is kept where it was edited.
 function bring_back() {
-  const {before, after} = replaced.pop();
-  if (text.value !== after) keep_text(text.value, before);
+  const last = replaced.pop(), {before, after} = last;
+  if (text.value === after) taken_back.push(last);
+  else keep_text(text.value, before);
   set_script(before, false);
   text.focus();
 }
 
-// Brings the text before back, as the key for undo does where the browser has nothing to undo. Returns whether it did.
+// Replaces a text again, after it was put back.
+function replace_again() {
+  const last = taken_back.pop();
+  replaced.push(last);
+  set_script(last.after, false);
+  text.focus();
+}
+
+// Answers the keys for undo and redo where the browser itself has nothing to undo or redo. Returns whether it did.
 function undo_replacing(e) {
-  if (e.key !== 'z' || !(e.ctrlKey || e.metaKey) || e.shiftKey || e.altKey) return false;
-  if (!replaced.length || replaced[replaced.length - 1].after !== text.value) return false;
+  if (!(e.ctrlKey || e.metaKey) || e.altKey) return false;
+  const key = (e.shiftKey ? 'shift ' : '') + e.key.toLowerCase(), last = (list) => list[list.length - 1] || {};
+  const is_undo = key === 'z' && last(replaced).after === text.value;
+  const is_redo = ['y', 'shift z'].includes(key) && last(taken_back).before === text.value;
+  if (!is_undo && !is_redo) return false;
   e.preventDefault();
-  bring_back();
+  if (is_undo) bring_back();
+  else replace_again();
   return true;
 }
 by_id('before').addEventListener('click', bring_back);
