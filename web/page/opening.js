@@ -9,12 +9,16 @@ async function open_page() {
   share('');
   set_script(embedded('first_script'));
   const own = text.value;
+  keep_safe();
   if (typeof DecompressionStream === 'undefined') {
     report(LACKS, true);
     return;
   }
   const linked = await linked_script();
-  if (linked !== null) set_script(linked, text.value !== own);
+  if (linked !== null) {
+    set_script(linked, text.value !== own);
+    keep_safe();
+  }
   program = await compile_program();
   caller = new Caller();
   await check_script();

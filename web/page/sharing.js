@@ -9,6 +9,18 @@ function share(words, link = '') {
   Object.assign(by_id('address'), {value: link, hidden: !link});
 }
 
+// The text that nobody loses: what the page started with, or what was last opened, saved, or put into a link.
+let safe = null;
+function keep_safe(script = text.value) {
+  safe = script;
+}
+const is_unsaved = () => safe !== null && text.value !== safe && !stories.some(({script}) => script === text.value);
+addEventListener('beforeunload', (e) => {
+  if (!is_unsaved()) return;
+  e.preventDefault();
+  e.returnValue = true;
+});
+
 // The longest link that is made: Firefox refuses addresses of some 1,000,000 characters. The most lines of its script: a text of
 // very many stops a browser.
 const MOST_LINK = 900000, MOST_LINES = 100000;
@@ -35,14 +47,15 @@ async function linked_script() {
 
 // Puts a link into the address, and into the clipboard where that is allowed. A page from a disk names the hosted copy.
 async function make_link() {
-  const fragment = await fragment_of(text.value), {home} = document.body.dataset;
+  const script = text.value, fragment = await fragment_of(script), {home} = document.body.dataset;
   const link = (home || location.href.replace(/#.*/, '')) + fragment;
   const here = !home && location.protocol === 'file:' ? '. It opens this file, which others may not have' : '';
-  if (encode(text.value).length > MOST_BYTES || link.length > MOST_LINK) {
+  if (encode(script).length > MOST_BYTES || link.length > MOST_LINK) {
     share('The script is too long for a link: save the page.');
     return;
   }
   history.replaceState(null, '', fragment);
+  keep_safe(script);
   try {
     await navigator.clipboard.writeText(link);
     share(`${counted(link.length, 'character')}, copied${here}`);
@@ -71,6 +84,7 @@ async function open_file(file) {
   try {
     if (file.size > MOST_BYTES) throw new RangeError(`${file.size} bytes, but a script has at most ${MOST_BYTES}`);
     set_script(decode_script(await file.arrayBuffer()));
+    keep_safe();
   } catch (error) {
     report(`${file.name}: ${error instanceof TypeError ? 'it isn\'t UTF-8' : error.message}`, true);
   }
@@ -81,9 +95,17 @@ by_id('file').addEventListener('change', (e) => {
   e.target.value = '';
 });
 by_id('link').addEventListener('click', () => make_link().catch((error) => share(`There is no link: ${error.message}. Save the page.`)));
-by_id('save').addEventListener('click', () => save(NAME, text.value, 'application/json'));
-by_id('save_page').addEventListener('click', () => save('uringwalk.html', page_with(text.value), 'text/html'));
+by_id('save').addEventListener('click', () => {
+  save(NAME, text.value, 'application/json');
+  keep_safe();
+});
+by_id('save_page').addEventListener('click', () => {
+  save('uringwalk.html', page_with(text.value), 'text/html');
+  keep_safe();
+});
 addEventListener('hashchange', async () => {
   const linked = await linked_script();
-  if (linked !== null && linked !== text.value) set_script(linked);
+  if (linked === null) return;
+  if (linked !== text.value) set_script(linked);
+  keep_safe();
 });
