@@ -243,10 +243,20 @@ def test_bad_input(page):
     page.wait("/the program stopped/.test(by_id('status').textContent)", "a trap is reported")
     page.js("check_script()")
     page.wait("/2 faults/.test(by_id('status').textContent)", "the program runs again after it")
-    added = page.tab.call("Page.addScriptToEvaluateOnNewDocument", source="delete globalThis.DecompressionStream")
-    page.tab.open(page.path)
-    page.wait("/lacks DecompressionStream/.test(by_id('status').textContent)", "a browser that can't unpack the program gets a sentence")
-    page.tab.call("Page.removeScriptToEvaluateOnNewDocument", identifier=added["identifier"])
+    for source, why in (("delete globalThis.DecompressionStream", "This browser lacks DecompressionStream: "),
+                        ("WebAssembly.compile = () => Promise.reject(new Error('no wasm'))", "This browser can't run the program: no wasm")):
+        added = page.tab.call("Page.addScriptToEvaluateOnNewDocument", source=source)
+        page.tab.open(page.path)
+        page.wait(f"by_id('status').textContent.startsWith({json.dumps(why)})", "a browser that can't unpack or compile the program gets a sentence")
+        page.js("ask('where')")
+        page.wait("by_id('replies').textContent !== ''", "a command is answered")
+        page.check("with that sentence", page.text("#replies") == f"> where\n{page.status()}\n", page.text("#replies"))
+        page.js("by_id('start').click()")
+        page.check("so is a search", page.text("#found") == page.status() and page.js("search === null"), page.text("#found"))
+        for step in ("see", "watch", "on"):
+            page.js(f"by_id('hint').textContent = '', show_pane('walk'), document.querySelector('[data-step={step}]').click()")
+            page.check(f"so is the step {step}", page.text("#hint") == page.status() and page.js("by_id('hint').offsetHeight > 0"), page.text("#hint"))
+        page.tab.call("Page.removeScriptToEvaluateOnNewDocument", identifier=added["identifier"])
 
 
 def test_keyboard(page):

@@ -137,7 +137,8 @@ function end_search(part) {
 }
 by_id('search').addEventListener('submit', (e) => {
   e.preventDefault();
-  if (!search && program) start_search();
+  if (!program) by_id('found').textContent = absent;
+  else if (!search) start_search();
 });
 by_id('cancel').addEventListener('click', () => {
   if (search) stop_search();

@@ -2,6 +2,12 @@
 
 const LACKS = 'This browser lacks DecompressionStream: open the page in Chromium 103, Firefox 113, Safari 16.4 or a later one.';
 
+// Says why there is no program, here and wherever it is asked for something.
+function report_absence(why) {
+  absent = why;
+  report(why, true);
+}
+
 async function open_page() {
   show_pane('findings');
   if (is_narrow()) show_pane('script');
@@ -11,7 +17,7 @@ async function open_page() {
   const own = text.value;
   keep_safe();
   if (typeof DecompressionStream === 'undefined') {
-    report(LACKS, true);
+    report_absence(LACKS);
     return;
   }
   const linked = await linked_script();
@@ -24,4 +30,4 @@ async function open_page() {
   await check_script();
   document.body.dataset.opened = Math.round(performance.now());
 }
-open_page().catch((error) => report(`This browser can't run the program: ${error.message}`, true));
+open_page().catch((error) => report_absence(`This browser can't run the program: ${error.message}`));

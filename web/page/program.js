@@ -23,7 +23,8 @@ async function compile_program() {
   return WebAssembly.compile(await piped(packed, new DecompressionStream('gzip'), MOST_MODULE));
 }
 
-let program = null;
+// The program, or why it isn't there.
+let program = null, absent = 'the program is loading';
 const worker_address = URL.createObjectURL(new Blob([by_id('worker').textContent], {type: 'text/javascript'}));
 
 const stopped = (why) => ({status: null, out: '', err: `the program stopped: ${why}`, files: {}});

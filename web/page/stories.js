@@ -47,7 +47,11 @@ const STEPS = {
 };
 for (const it of all_of('[data-step]')) {
   it.addEventListener('click', () => {
-    if (!program) return;
+    if (!program) {
+      show_pane('findings');
+      by_id('hint').textContent = absent;
+      return;
+    }
     it.classList.add('done');
     STEPS[it.dataset.step]();
   });

@@ -24,7 +24,7 @@ function ask(line) {
 // Runs a line at the moment that the page shows. The timeline follows.
 async function run_line(line) {
   if (!program) {
-    show_reply(line, 'the program is loading');
+    show_reply(line, absent);
     return;
   }
   walker = walker || new Caller();
