@@ -39,13 +39,13 @@ class PageFault(AssertionError):
 class Browser:
     """One browser with one tab."""
 
-    def __init__(self, width=1600, height=900):
+    def __init__(self, width=1600, height=900, has_scrollbars=False):
         self.room = tempfile.mkdtemp(prefix="browser")
         self.last, self.session, self.faults, self.dialogs, self.rest, self.url = 0, None, [], [], b"", None
         ours_in, theirs_out = os.pipe()
         theirs_in, ours_out = os.pipe()
         words = [program(), "--headless=new", "--no-sandbox", "--disable-gpu", "--disable-dev-shm-usage", "--no-first-run",
-                 "--hide-scrollbars", "--remote-debugging-pipe", f"--user-data-dir={self.room}", "about:blank"]
+                 *([] if has_scrollbars else ["--hide-scrollbars"]), "--remote-debugging-pipe", f"--user-data-dir={self.room}", "about:blank"]
         shell = ["bash", "-c", f'exec "$@" 3<&{theirs_in} 4>&{theirs_out}', "bash"]
         self.child = subprocess.Popen(shell + words, pass_fds=(theirs_in, theirs_out), start_new_session=True, **QUIET)
         for fd in (theirs_in, theirs_out):

@@ -317,10 +317,19 @@ def test_network(page):
     page.check("nothing is loaded", asked == [], asked)
 
 
+def run_tests(page, tests):
+    for test in tests:
+        try:
+            test(page)
+        except browser.PageFault as fault:
+            page.sums.check("the page's script runs", False, re.sub(r"\s+", " ", str(fault))[:300])
+
+
 def test_page(path, made, room, sums):
     """Runs all of these on one page."""
+    with browser.Browser(*WIDE, has_scrollbars=True) as tab:
+        run_tests(Page(tab, path, sums), [in_use.test_scrollbars])
     with browser.Browser(*WIDE) as tab:
-        page = Page(tab, path, sums)
         tests = [test_network, test_first_visit, test_edits, test_underlines, test_completion, test_walk, test_explore, lambda it: test_share(it, room),
                  test_bad_links, test_bad_input, test_keyboard, lambda it: test_looks(it, room),
                  lambda it: hostile.test_failures(it, made, room), hostile.test_fields, hostile.test_fences,
@@ -330,8 +339,4 @@ def test_page(path, made, room, sums):
                  in_use.test_narrow, in_use.test_keys_alone, in_use.test_frame, in_use.test_focus_in_frame, in_use.test_places, in_use.test_choices,
                  in_use.test_old_answers, in_use.test_files, lambda it: in_use.test_leaving(it, room), in_use.test_examples, in_use.test_left_choices,
                  lambda it: in_use.test_saved_by_browser(it, room)]
-        for test in tests:
-            try:
-                test(page)
-            except browser.PageFault as fault:
-                sums.check("the page's script runs", False, re.sub(r"\s+", " ", str(fault))[:300])
+        run_tests(Page(tab, path, sums), tests)

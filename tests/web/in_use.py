@@ -503,6 +503,29 @@ def test_places(page):
         page.check(f"flag {flag} has its name", page.text("#names") == f"op 22 is READ, {name}", page.text("#names"))
 
 
+# How far the text is painted beyond the part of the field that its scrollbars leave, in pixels, across and down.
+BEYOND = """(() => { const field = text.getBoundingClientRect(), all = document.createRange();
+  all.selectNodeContents(paint);
+  let {right, bottom} = all.getBoundingClientRect();
+  for (let at = paint.parentElement; at; at = at.parentElement) {
+    const box = at.getBoundingClientRect();
+    if (getComputedStyle(at).overflow === 'hidden') [right, bottom] = [Math.min(right, box.right), Math.min(bottom, box.bottom)];
+  }
+  return [right - field.left - text.clientWidth, bottom - field.top - text.clientHeight].map(Math.round); })()"""
+
+
+def test_scrollbars(page):
+    """The text isn't painted over the scrollbars of its field."""
+    page.open()
+    page.set_text("\n".join(["x" * 300] * 100))
+    bars = page.js("[text.offsetWidth - text.clientWidth, text.offsetHeight - text.clientHeight]")
+    page.check("the field has scrollbars", min(bars) > 5, bars)
+    page.check("the text ends before them", page.js(BEYOND) == [0, 0], page.js(BEYOND))
+    page.js("text.scrollTop = 300, text.scrollLeft = 300")
+    page.wait("/^translate\\(-300px/.test(paint.style.transform)", "the text scrolls")
+    page.check("also where it is scrolled", page.js(BEYOND) == [0, 0], page.js(BEYOND))
+
+
 def test_choices(page):
     """A completion is chosen by the arrow keys, and by the mouse."""
     page.open()

@@ -75,6 +75,7 @@ function draw_text() {
     return painted(from, to, marked, is_colored);
   };
   paint.innerHTML = is_bare ? '' : seen.map(line).join('\n');
+  Object.assign(paint.parentElement.style, {width: `${text.clientWidth}px`, height: `${text.clientHeight}px`});
   paint.style.transform = `translate(${-text.scrollLeft}px, ${shift}px)`;
 }
 
