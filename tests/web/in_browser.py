@@ -337,6 +337,7 @@ def test_page(path, made, room, sums):
                  in_use.test_commands, in_use.test_session, in_use.test_schedules, in_use.test_replacing, in_use.test_redo, in_use.test_search_and_edits,
                  in_use.test_typing_early, lambda it: in_use.test_searches(it, made), in_use.test_sentences, in_use.test_long_run, in_use.test_quick_jumps, in_use.test_first_fault, in_use.test_tabs,
                  in_use.test_narrow, in_use.test_keys_alone, in_use.test_frame, in_use.test_focus_in_frame, in_use.test_places, in_use.test_choices,
-                 in_use.test_old_answers, in_use.test_files, lambda it: in_use.test_leaving(it, room), in_use.test_examples, in_use.test_left_choices,
+                 in_use.test_old_answers, in_use.test_files, lambda it: in_use.test_saving(it, room),
+                 in_use.test_painting, in_use.test_workers, in_use.test_hiding, lambda it: in_use.test_leaving(it, room), in_use.test_examples, in_use.test_left_choices,
                  lambda it: in_use.test_saved_by_browser(it, room)]
         run_tests(Page(tab, path, sums), tests)

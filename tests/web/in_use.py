@@ -3,10 +3,12 @@ import json
 import os
 import re
 import subprocess
+import time
 
 HERE = os.path.dirname(os.path.realpath(__file__))
 TOP = os.path.dirname(os.path.dirname(HERE))
 ROUNDS, PART = 1334, 2000
+PATIENCE = 60  # seconds that a file may take
 CONTROL, SHIFT = 2, 8
 
 # Texts, and what the items of their schedules are.
@@ -187,6 +189,91 @@ def test_files(page):
     page.js("text.focus()")
     control(page, "z")
     page.check("the key for undo brings the script before back", page.js("text.value") == "\ufeff{}", page.js("text.value"))
+
+
+def downloaded(page, path):
+    """Waits for a file that the browser saves, and returns its text."""
+    until = time.monotonic() + PATIENCE
+    while not os.path.exists(path) and time.monotonic() < until:
+        time.sleep(0.05)
+    page.check(f"{os.path.basename(path)} is saved", os.path.exists(path))
+    if not os.path.exists(path):
+        return None
+    with open(path, encoding="utf-8", newline="") as file:
+        return file.read()
+
+
+def test_saving(page, room):
+    """The buttons of Share write the script, and the page with it; Open reads a file."""
+    folder = f"{room}/saved"
+    page.tab.call("Page.setDownloadBehavior", behavior="allow", downloadPath=folder)
+    page.open()
+    script = page.js("text.value").replace("upload", "\u00fcpload </script>")
+    page.set_text(script)
+    page.click("#save")
+    page.check("the file has the script", downloaded(page, f"{folder}/script.json") == script)
+    page.click("#save_page")
+    downloaded(page, f"{folder}/uringwalk.html")
+    page.tab.open(f"{folder}/uringwalk.html")
+    page.wait("document.body.dataset.opened !== undefined", "the page that was saved opens")
+    page.check("it has the script", page.js("text.value") == script, page.js("text.value.slice(0, 99)"))
+    page.open()
+    page.tab.call("DOM.getDocument")
+    field = page.tab.call("Runtime.evaluate", expression="by_id('file')")["result"]["objectId"]
+    for _ in range(2):
+        page.js("set_script('{}')")
+        page.tab.call("DOM.setFileInputFiles", files=[f"{folder}/script.json"], objectId=field)
+        page.wait(f"text.value === {json.dumps(script)}", "a file that is chosen is opened, also once more")
+    page.js("globalThis.clicked = 0, by_id('file').click = () => { clicked += 1; }, by_id('open').click()")
+    page.check("Open asks for a file", page.js("clicked") == 1)
+
+
+def test_painting(page):
+    """Only the lines in view are painted, and a scroll paints others."""
+    page.open()
+    page.set_text("\n".join(f"line {number}" for number in range(1, 5001)))
+    seen = page.js("Math.ceil(text.clientHeight / editor.height)")
+    for top, first in ((0, 1), (2000, 2001), (4990, None)):
+        page.js(f"text.scrollTop = {top} * editor.height")
+        lines = "paint.textContent.split('\\n')"
+        if first:
+            page.wait(f"{lines}[0] === 'line {first}'", f"the lines from {first} on are painted")
+            page.check("and numbered", page.js("gutter.textContent.split('\\n')[0]") == str(first), page.text("#gutter")[:9])
+        else:
+            page.wait(f"{lines}.includes('line 5000')", "the last line is painted")
+        count = page.js(f"{lines}.length")
+        page.check("no more than those in view", seen - 2 <= count <= seen + 2, f"{count} lines, {seen} in view")
+    page.set_text("x" * 300)
+    page.js("text.scrollLeft = 70")
+    page.wait("/^translate\\(-70px/.test(paint.style.transform)", "a scroll moves the text sideways")
+
+
+def test_workers(page):
+    """A search runs in several workers."""
+    page.open()
+    choose_example(page, "batched_nops")
+    page.js("(() => { const {run} = Caller.prototype; globalThis.ran = new Set(); Caller.prototype.run = function(...all) { if (all[0][0] === 'explore') ran.add(this.worker); return run.apply(this, all); }; })()")
+    page.js("by_id('runs').value = 1000000, by_id('start').click()")
+    page.wait("search && search.sum.runs > 0", "a search runs")
+    wanted = page.js("Math.max(2, Math.min(8, navigator.hardwareConcurrency))")
+    page.check("each worker has a slice", page.js("ran.size") == wanted and f"by {wanted} workers" in page.text("#rate"), page.text("#rate"))
+    page.click("#cancel")
+    page.js("Object.defineProperty(navigator, 'hardwareConcurrency', {value: 5, configurable: true}), by_id('start').click()")
+    page.check("there are as many as processors", page.js("search.callers.length") == 5)
+    page.click("#cancel")
+    page.js("Object.defineProperty(navigator, 'hardwareConcurrency', {value: 64}), by_id('start').click()")
+    page.check("but at most eight", page.js("search.callers.length") == 8)
+    page.click("#cancel")
+
+
+def test_hiding(page):
+    """The first steps can be hidden, and the text gets their room and the focus."""
+    page.open()
+    height = page.js("by_id('editor').offsetHeight")
+    page.click("#leave")
+    page.check("they are hidden", page.js("by_id('visit').offsetHeight === 0 && by_id('visit').hidden"))
+    page.check("the editor gets their room", page.js("by_id('editor').offsetHeight") > height)
+    page.check("the focus is in the text", page.focus() == "text", page.focus())
 
 
 def test_leaving(page, room):
