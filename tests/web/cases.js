@@ -11,6 +11,7 @@ function folders_in(folder, below = '') {
   return found.flatMap(({name}) => [path.join(below, name), ...folders_in(folder, path.join(below, name))]);
 }
 
+// Returns the files of a folder, without links, which the module hasn't: a run that needs one is left out.
 function files_in(folder, below = '') {
   const found = {};
   for (const it of fs.readdirSync(path.join(folder, below), {withFileTypes: true})) {
@@ -18,7 +19,7 @@ function files_in(folder, below = '') {
     if (it.isDirectory()) {
       if (name !== 'after') Object.assign(found, files_in(folder, name));
     } else if (it.isFile()) found[name] = fs.readFileSync(path.join(folder, name));
-    else throw new Error(`${name} is a link or a device`);
+    else if (!it.isSymbolicLink()) throw new Error(`${name} is a pipe or a device`);
   }
   return found;
 }
@@ -164,17 +165,20 @@ function faults_of(folder, files, run) {
   }
 }
 
-// Runs each case of some folders, but those that are left out. Returns how many runs passed, and what failed.
+// Runs each case of some folders, but runs that are left out, as `CASE` or `CASE/RUN`, and cases of another program. Returns how
+// many runs passed, what failed, and which names are those of no run.
 function run_cases(folders, left_out, run) {
-  const sums = {passed: 0, failed: []};
-  for (const folder of folders.filter((it) => !left_out.includes(path.basename(it)))) {
+  const sums = {passed: 0, failed: []}, unknown = new Set(left_out);
+  for (const folder of folders.filter((it) => !fs.existsSync(`${it}/program`))) {
     for (const {name, files} of runs_of(folder)) {
+      const whole = path.join(path.basename(folder), name);
+      if (unknown.delete(whole)) continue;
       const found = faults_of(folder, files, run);
-      if (found.length) sums.failed.push(`${path.basename(folder)} ${name}: ${found.join('; ')}`);
+      if (found.length) sums.failed.push(`${whole}: ${found.join('; ')}`);
       else sums.passed += 1;
     }
   }
-  return sums;
+  return {...sums, unknown: [...unknown]};
 }
 
 module.exports = {run_cases, runs_of, words_of};

@@ -18,7 +18,7 @@ function count(name, {passed, failed}) {
 const check = (name, faults) => count(name, {passed: faults.length ? 0 : 1, failed: faults});
 
 const lines_of = (file) => fs.readFileSync(file, 'utf8').split('\n').filter((it) => it && it[0] !== '#');
-const left_out = lines_of(`${__dirname}/left_out`).map((it) => it.split(' ')[0]);
+const left_out = lines_of(`${__dirname}/left_out`).map((it) => it.replace(/: [^:]*$/, ''));
 const scripts = (name) => `${TOP}/examples/${name}/script.json`;
 
 // Compares the functions that the host has with those that a module may import.
@@ -60,9 +60,11 @@ function main([module_path, ...cases]) {
   process.env.MODULE = module_path;
   check_imports();
   check('host', host_faults());
-  check('left_out', left_out.length > MOST_LEFT_OUT ? [`${left_out.length} cases, but at most ${MOST_LEFT_OUT} may be`] : []);
+  check('left_out', left_out.length > MOST_LEFT_OUT ? [`${left_out.length} runs, but at most ${MOST_LEFT_OUT} may be`] : []);
   check_files(cases, run);
-  count('cases', run_cases(cases, left_out, run));
+  const ran = run_cases(cases, left_out, run);
+  count('cases', ran);
+  check('names in left_out', ran.unknown.map((it) => `${it} is no run`));
   const stories = fs.readdirSync(`${TOP}/examples`).map(scripts).filter((it) => fs.existsSync(it));
   count('slices', compare_slices(stories, run));
   check_limits(bytes);
