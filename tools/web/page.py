@@ -31,8 +31,8 @@ def data(value):
 
 
 def stories():
-    told = json.loads(read(f"{WEB}/stories.json"))
-    return [{"name": name, "look": look, "script": read(f"{EXAMPLES}/{name}/script.json")} for name, look in told]
+    named = json.loads(read(f"{WEB}/stories.json"))
+    return [{"name": name, "look": look, "script": read(f"{EXAMPLES}/{name}/script.json")} for name, look in named]
 
 
 def opcodes():
@@ -61,10 +61,10 @@ def text_of(module, is_proved, script=None, home=""):
     """Returns the text of the page, which starts with a script or the first example."""
     with open(module, "rb") as file:
         program = file.read()
-    told, (number, kit) = stories(), version()
+    examples, (number, kit) = stories(), version()
     parts = {"style": read(f"{WEB}/style.css"), "home": html.escape(home), "version": number, "kit": html.escape(kit),
              "origin": PROVED if is_proved else UNPROVED, "sum": hashlib.sha256(program).hexdigest(),
-             "start": data(told[0]["script"] if script is None else script), "stories": data(told), "opcodes": data(opcodes()),
+             "start": data(examples[0]["script"] if script is None else script), "stories": data(examples), "opcodes": data(opcodes()),
              "program": base64.b64encode(gzip.compress(program, 9, mtime=0)).decode(), "worker": worker(), "script": scripts()}
     return re.sub(r"\{\{(\w+)\}\}", lambda found: parts[found[1]], read(f"{WEB}/page.html"))
 
