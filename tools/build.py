@@ -191,7 +191,7 @@ class Build:
         """Returns how many processors a crate gets, also where fewer are free: one, and those for which the crates that don't need
         it are too small.
 
-        Small crates that were started before it may run beside these jobs for a short while."""
+        Small crates that were started before it may still run for a short while."""
         others = [it for it in self.waiting() if it != name and name not in self.below[it]]
         spare = self.lanes - 1 - sum(self.size[it] for it in others) / self.size[name]
         return max(1, min(MOST_JOBS, 1 + int(spare)))

@@ -2,7 +2,7 @@
 a cancellation or a removal completes as it is issued (io_uring_enter(2)).
 
 A kernel has the choice of when it issues requests with IOSQE_ASYNC and FSYNCs, which workers carry out, and those from the first
-with IOSQE_IO_DRAIN on. The later requests of a chain it issues before the thread that submitted them goes on."""
+with IOSQE_IO_DRAIN on. The later requests of a chain it issues before the next step of the thread that submitted them."""
 from traces import Event
 
 NOP, FSYNC, REMOVALS = 0, 3, {7: "removal", 12: "removal", 14: "cancel"}

@@ -41,7 +41,7 @@ The first line is one of:
   not a kernel's schedule: event I: WHY
                                    the schedule completes requests otherwise than a kernel can
   a kernel may choose otherwise: event I
-                                   and this one can't be asked for the schedule's choice
+                                   and this one can't be made to take the schedule's choice
   nothing to run: the schedule is empty
   not settled                      the run takes more than 20 seconds
   can't be run here: REASON
