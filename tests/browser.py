@@ -41,7 +41,7 @@ class Browser:
 
     def __init__(self, width=1600, height=900, has_scrollbars=False):
         self.room = tempfile.mkdtemp(prefix="browser")
-        self.last, self.session, self.faults, self.dialogs, self.rest, self.url = 0, None, [], [], b"", None
+        self.last, self.session, self.faults, self.rest = 0, None, [], b""
         ours_in, theirs_out = os.pipe()
         theirs_in, ours_out = os.pipe()
         words = [program(), "--headless=new", "--no-sandbox", "--disable-gpu", "--disable-dev-shm-usage", "--no-first-run",
@@ -78,11 +78,6 @@ class Browser:
         if message.get("method") == "Runtime.exceptionThrown":
             details = message["params"]["exceptionDetails"]
             self.faults.append(details.get("exception", {}).get("description", details["text"]))
-        elif message.get("method") == "Page.frameNavigated" and "parentId" not in message["params"]["frame"]:
-            self.url = message["params"]["frame"]["url"]
-        elif message.get("method") == "Page.javascriptDialogOpening":
-            self.dialogs.append(message["params"]["type"])
-            self.send(self.session, "Page.handleJavaScriptDialog", {"accept": True})
         elif message.get("method") == "Target.attachedToTarget" and message.get("sessionId"):
             frame = message["params"]["sessionId"]
             self.send(frame, "Runtime.enable", {})
@@ -117,10 +112,7 @@ class Browser:
     def open(self, path, fragment=""):
         """Opens a file, and waits until its script has run. Raises what the script throws, or that of the page before has."""
         self.check()
-        self.url = None
         self.call("Page.navigate", url="about:blank")
-        while self.url is None:
-            self.note(self.receive())
         self.faults = []
         self.call("Page.navigate", url=f"file://{path}{fragment}")
         self.js("new Promise((done) => document.readyState === 'complete' ? done() : window.addEventListener('load', done))")

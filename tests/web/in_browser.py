@@ -317,6 +317,18 @@ def test_network(page):
     page.check("nothing is loaded", asked == [], asked)
 
 
+# Keeps what the page does before it is left for the tests to call: Chromium loses navigations that have to ask.
+UNASKED = """{ const add = addEventListener; globalThis.addEventListener = (type, call, ...more) => {
+  if (type === 'beforeunload') globalThis.on_leaving = call;
+  else add.call(window, type, call, ...more); }; }"""
+
+
+def page_in(tab, path, sums):
+    """Returns the page in a tab of Chromium."""
+    tab.call("Page.addScriptToEvaluateOnNewDocument", source=UNASKED)
+    return Page(tab, path, sums)
+
+
 def run_tests(page, tests):
     for test in tests:
         try:
@@ -328,7 +340,7 @@ def run_tests(page, tests):
 def test_page(path, made, room, sums):
     """Runs all of these on one page."""
     with browser.Browser(*WIDE, has_scrollbars=True) as tab:
-        run_tests(Page(tab, path, sums), [in_use.test_scrollbars])
+        run_tests(page_in(tab, path, sums), [in_use.test_scrollbars])
     with browser.Browser(*WIDE) as tab:
         tests = [test_network, test_first_visit, test_edits, test_underlines, test_completion, test_walk, test_explore, lambda it: test_share(it, room),
                  test_bad_links, test_bad_input, test_keyboard, lambda it: test_looks(it, room),
@@ -340,4 +352,4 @@ def test_page(path, made, room, sums):
                  in_use.test_old_answers, in_use.test_files, lambda it: in_use.test_saving(it, room),
                  in_use.test_painting, in_use.test_workers, in_use.test_hiding, lambda it: in_use.test_leaving(it, room), in_use.test_examples, in_use.test_left_choices,
                  lambda it: in_use.test_saved_by_browser(it, room)]
-        run_tests(Page(tab, path, sums), tests)
+        run_tests(page_in(tab, path, sums), tests)
