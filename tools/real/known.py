@@ -340,6 +340,17 @@ def name_of_bytes(context, it):
     return ""
 
 
+def name_of_store(context, it):
+    """Returns the name of a call that waits on the kernel alone, whose thread stores these bytes of memory here."""
+    kind, *_, first, end = it.subject
+    for other in context.found:
+        if kind == "memory" and other.subject[0] == "call" and other.theirs == ["waits"] and other.name:
+            stores = [(numbers[0], raw) for what, numbers, raw in context.setup.threads[other.subject[1]] if what == traces.STORE]
+            if any(addr < end and first < addr + len(raw) for addr, raw in stores):
+                return other.name
+    return ""
+
+
 def name_of_flush(context):
     """Returns the item that explains why a completion is in the ring here, and in the backlog on the kernel, or the reverse."""
     if len(context.state.sequence()) <= context.setup.completions:
@@ -382,4 +393,4 @@ def name_all(found, run, outcome):
     for it in kinds["word"]:
         it.name = name_of_word(context, it)
     for it in [*kinds["memory"], *kinds["file"]]:
-        it.name = name_of_bytes(context, it)
+        it.name = name_of_bytes(context, it) or name_of_store(context, it)
