@@ -175,8 +175,8 @@ impl Eager {
     }
 
     // Makes an event of the eager run, after which the last submission is of the requests from
-    // number `next_row` on. More events than a trace can have are refused as `Memory`; no script is long
-    // enough for that.
+    // number `next_row` on. More events than a trace can have are refused as `Memory`; no script is
+    // long enough for that.
     fn add(&mut self, event: Event, next_row: u32) -> Result<(), Refusal>
         requires { length self.old.events.items ≤ 1048576 }
         ensures few { OnOk result (length self.new.events.items ≤ 1048576) }

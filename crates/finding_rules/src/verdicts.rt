@@ -1,4 +1,4 @@
-//! A fault or a note, and how the end of a run decides which: by whether a WRITE is lost (fsync(2)).
+//! A fault or a note, and how the end of a run decides which: by whether a WRITE is lost, fsync(2).
 ghost use Rattle.std.specs.Prelude.{◌≡◌, ◌+◌};
 ghost use Rattle.finding_rules.specs.{list_any, has, fault_if, has_byte, has_byte_of, judged_kind, is_marked, numbers_below};
 

@@ -62,8 +62,8 @@ pub fn undo(state: &mut State, sample: &Sample)
     state.unwind(&sample.records);
 }
 
-/// Undoes the events of a run from number `opening` on. The first request of the last submission was
-/// `next_row` then. Doesn't allocate.
+/// Undoes the events of a run from number `opening` on. The first request of the last submission
+/// was `next_row` then. Doesn't allocate.
 pub fn rewind(state: &mut State, sample: &mut Sample, opening: usize, next_row: u32)
     requires events { opening ≤ length sample.old.events.items }
     requires records { opening ≤ length sample.old.records.items }
